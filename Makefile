@@ -1,0 +1,74 @@
+# rt builds for x86-64. On another machine the tests too are built for x86-64 and run in an
+# emulator, and what is timed is built for that machine.
+ifeq ($(shell uname -m),x86_64)
+RUSTC := rustc
+CC := gcc
+EMULATOR :=
+TIMED := build/bench
+export BINUTILS :=
+else
+RUSTC := /usr/bin/rustc --target x86_64-unknown-linux-gnu -C linker=x86_64-linux-gnu-gcc
+CC := x86_64-linux-gnu-gcc
+EMULATOR := /usr/bin/qemu-x86_64
+TIMED := build/native/bench
+export BINUTILS := x86_64-linux-gnu-
+endif
+
+# One unit: how fast the second program is must not hang on how the compiler cuts it up.
+RUST = $(RUSTC) --edition 2021 -C opt-level=3 -C codegen-units=1
+LIBRARY = -L native=$(@D) -l static=kkurimyeot
+
+.PHONY: help run test bench setup clean always
+.NOTPARALLEL:
+.SECONDARY:
+
+help: ## print this list
+	@sed -n 's/^\([a-z]*\):.*## /make \1\t/p' Makefile
+
+run: ## prove the vectors program and run it
+	rt check vectors
+	tools/run vectors
+
+test: setup build/unit build/compare build/calls ## test the library, then prove everything: the gate
+	$(EMULATOR) build/unit
+	$(EMULATOR) build/compare
+	$(EMULATOR) build/calls
+	rt fmt --check
+	rt ci
+
+bench: setup build/bench $(TIMED) ## measure the library beside the second program
+	$(if $(EMULATOR),bench/instructions $(EMULATOR) build/bench)
+	$(TIMED)
+	bench/sizes build/libkkurimyeot.a
+
+setup: ## install what the tests need and this machine lacks
+	tools/setup
+
+clean: ## remove everything that was built
+	rm -rf build target
+
+# rt knows what has changed. All below is built anew on the archive that it writes.
+build/libkkurimyeot.a: always
+	rt staticlib kkurimyeot
+	mkdir -p $(@D)
+	cp target/staticlib/libkkurimyeot.a $@
+
+# For the machine at hand.
+build/native/%: RUSTC := rustc
+build/native/libkkurimyeot.a: always
+	bench/native $@
+
+%/libsecond.rlib: %/libkkurimyeot.a
+	$(RUST) --crate-type rlib --crate-name second $(LIBRARY) tests/second/lib.rs -o $@
+
+%/bench: %/libsecond.rlib
+	RUSTC_VERSION="$$($(RUSTC) --version)" $(RUST) --extern second=$< bench/bench.rs -o $@
+
+build/compare: build/libsecond.rlib
+	$(RUST) --extern second=$< tests/compare/main.rs -o $@
+
+build/unit: build/libkkurimyeot.a
+	$(RUST) --crate-name second --test $(LIBRARY) tests/second/lib.rs -o $@
+
+build/calls: build/libkkurimyeot.a
+	$(CC) -std=c99 -pedantic -Wall -Wextra -Werror -I include tests/calls.c $< -o $@

@@ -1,0 +1,25 @@
+-- `Cells::look` meets its contract: the loop fills the sixteen cells that the table has.
+use mathlib.Core.Path.{ap}
+use mathlib.Core.List.{List}
+use Prim.Native.Nat.{ℕ, _-_}
+use Rattle.cells.specs.Lists.{_!_, nibbles}
+use Rattle.cells.specs.Cells.{cell, looked}
+use Rattle.cells.proofs.Fill.{Filled, fills, whole}
+use Rattle.cells.proofs.Cells.look.Statement.{statement}
+use Rattle.cells.proofs.Cells.look.Tie as tie
+
+pub look-spec : {M : Type 1} → statement M
+unfolding looked
+look-spec =
+    tie.close
+    (tie.spec
+    (λ table self out₀ i₀ out i. Filled 16 (λ k. nibbles table ! cell self k) out i)
+    (λ table self out₀ i₀ out i. 16 - i)
+    (λ c. search fills)
+    (λ c. search fills)
+    (λ c κs. c .before .before .before .pre .all (c .before .before .loop .i) (search fills))
+    (λ c. search fills)
+    (λ c. search fills)
+    (λ c. search fills)
+    (λ c. search fills)
+    (λ c. ap (λ (l : List ℕ). record { at = l }) (whole (c .before .loop .inv) (c .loop-test .left))))

@@ -1,0 +1,20 @@
+-- `Cells::transpose` meets its contract: the definition computes to these rows.
+use borrow.Author.Needs.{needs}
+use mathlib.Core.Path.{ap, _∙_}
+use Rattle.cells.specs.Lists.{upto}
+use Rattle.cells.specs.Cells.{ofRows, transposed}
+use Rattle.cells.proofs.Laws.{four}
+use Rattle.cells.proofs.Cells.transpose.Statement.{statement}
+use Rattle.cells.proofs.Cells.transpose.Tie as tie
+
+pub transpose-spec : {M : Type 1} → statement M
+unfolding ofRows transposed upto
+transpose-spec =
+    tie.close
+    (tie.spec
+    (λ c κs. search needs)
+    (λ c κs. search needs)
+    (λ c κs. search needs)
+    (λ c κs. search needs)
+    (λ c κs. search needs)
+    (λ c. c .of-rows .ensures ∙ ap ofRows (four (c .before .before .before .before .take .ensures) (c .before .before .before .take2 .ensures) (c .before .before .take3 .ensures) (c .before .take4 .ensures))))

@@ -1,0 +1,24 @@
+-- `look_up` meets its contract: the cell that is shifted down and masked is the one that the table has there.
+use borrow.Author.Needs.{needs}
+use mathlib.Core.Path.{_≡_, sym, _∙_}
+use Prim.Native.Nat.{ℕ, _*_, _/_, _%_, _^_}
+use native.Mathlib.Omega.{arith}
+use lib.Bits.{and-mask, mask-lt}
+use Rattle.cells.specs.Lists.{nibbles}
+use Rattle.cells.proofs.Upto.{upto-at}
+use Rattle.cells.proofs.look_up.Statement.{statement}
+use Rattle.cells.proofs.look_up.Tie as tie
+
+pub look-up-spec : {M : Type 1} → statement M
+unfolding nibbles
+look-up-spec =
+    tie.close
+    (tie.spec
+    (λ c κs. search needs)
+    (λ c. search needs)
+    (λ c. search needs)
+    (λ c. omega (arith, mask-lt (c .before .args .table / 2 ^ (4 * c .wide .result)) 4))
+    (λ c.
+    rw (c .wide .ensures)
+    (and-mask (c .before .args .table / 2 ^ (4 * c .before .args .x)) 4
+    ∙ sym (upto-at 16 (λ v. c .before .args .table / 2 ^ (4 * v) % 16) (c .before .args .x) (c .before .pre)))))

@@ -1,0 +1,69 @@
+-- Document 01, "The engine": the boxes, entries, bit step and constants of QARMA-64.
+use mathlib.Core.List.{List, [], _∷_}
+use Prim.Native.Nat.{ℕ, zero, suc, _+_, _*_, _/_, _%_}
+use lib.ListN.{getD}
+use Rattle.words.specs.Digits.{_⊕_}
+use Rattle.cells.specs.Lists.{_!_}
+use Rattle.cells.specs.Cells.{Cipher, cut}
+
+-- "Boxes, for inputs 0 to 15"
+abbrev pub boxes : List (List ℕ)
+boxes =
+    (0 ∷ 14 ∷ 2 ∷ 10 ∷ 9 ∷ 15 ∷ 8 ∷ 11 ∷ 6 ∷ 4 ∷ 3 ∷ 7 ∷ 13 ∷ 12 ∷ 1 ∷ 5 ∷ [])
+    ∷ (10 ∷ 13 ∷ 14 ∷ 6 ∷ 15 ∷ 7 ∷ 3 ∷ 5 ∷ 9 ∷ 8 ∷ 0 ∷ 12 ∷ 11 ∷ 1 ∷ 2 ∷ 4 ∷ [])
+    ∷ (11 ∷ 6 ∷ 8 ∷ 15 ∷ 12 ∷ 0 ∷ 9 ∷ 14 ∷ 3 ∷ 7 ∷ 4 ∷ 5 ∷ 13 ∷ 2 ∷ 1 ∷ 10 ∷ [])
+    ∷ []
+
+-- "the inverse box"
+abbrev pub unboxes : List (List ℕ)
+unboxes =
+    (0 ∷ 14 ∷ 2 ∷ 10 ∷ 9 ∷ 15 ∷ 8 ∷ 11 ∷ 6 ∷ 4 ∷ 3 ∷ 7 ∷ 13 ∷ 12 ∷ 1 ∷ 5 ∷ [])
+    ∷ (10 ∷ 13 ∷ 14 ∷ 6 ∷ 15 ∷ 7 ∷ 3 ∷ 5 ∷ 9 ∷ 8 ∷ 0 ∷ 12 ∷ 11 ∷ 1 ∷ 2 ∷ 4 ∷ [])
+    ∷ (5 ∷ 14 ∷ 13 ∷ 8 ∷ 10 ∷ 11 ∷ 1 ∷ 9 ∷ 2 ∷ 6 ∷ 15 ∷ 0 ∷ 4 ∷ 12 ∷ 7 ∷ 3 ∷ [])
+    ∷ []
+
+-- "Rows of entries: - 1 2 1; 1 - 1 2; 2 1 - 1; 1 2 1 -"
+abbrev pub entries : List (List ℕ)
+entries = (0 ∷ 1 ∷ 2 ∷ 1 ∷ []) ∷ (1 ∷ 0 ∷ 1 ∷ 2 ∷ []) ∷ (2 ∷ 1 ∷ 0 ∷ 1 ∷ []) ∷ (1 ∷ 2 ∷ 1 ∷ 0 ∷ []) ∷ []
+
+-- "from bits (b3 b2 b1 b0) to (b0+b1, b3, b2, b1)", and back
+abbrev pub bitStepped : ℕ → ℕ
+bitStepped v = (v ⊕ v / 2) % 2 * 8 + v / 2
+
+abbrev pub bitUnstepped : ℕ → ℕ
+bitUnstepped v = v % 8 * 2 + (v / 8 ⊕ v) % 2
+
+-- a cell kept (0), its bits stepped (1) or stepped back
+abbrev pub bitMoved : ℕ → ℕ → ℕ
+bitMoved zero v = v
+bitMoved (suc zero) v = bitStepped v
+bitMoved (suc (suc n)) v = bitUnstepped v
+
+-- "Constants in hexadecimal, c0 to c7", and "Alpha"
+abbrev pub constants : List ℕ
+constants =
+    0x0000000000000000
+    ∷ 0x13198A2E03707344
+    ∷ 0xA4093822299F31D0
+    ∷ 0x082EFA98EC4E6C89
+    ∷ 0x452821E638D01377
+    ∷ 0xBE5466CF34E90C6C
+    ∷ 0x3F84D5B5B5470917
+    ∷ 0x9216D5D98979FB1B
+    ∷ []
+
+abbrev pub alphaWord : ℕ
+alphaWord = 0xC0AC29B7C97C50DD
+
+abbrev pub qarma64 : Cipher
+qarma64 =
+    record {
+      bits = 4;
+      box = λ b. getD boxes b [];
+      unbox = λ b. getD unboxes b [];
+      rows = entries;
+      bitStep = bitStepped;
+      bitBack = bitUnstepped;
+      constant = λ i. cut 4 (constants ! i);
+      alpha = cut 4 alphaWord;
+    }

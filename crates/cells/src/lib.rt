@@ -1,0 +1,273 @@
+// Sixteen cells, and what QARMA-64 does to them: boxes, shuffle, mix and tweak step.
+ghost use mathlib.Core.Path.{_≡_};
+ghost use mathlib.Core.List.{[], _∷_};
+ghost use Prim.Native.Nat.{_<_};
+ghost use Rattle.cells.specs.Lists.{_!_, upto, nibbles};
+ghost use Rattle.cells.specs.Cells.{Below, cell, ofRows, transposed, cut, joined, added, looked, shuffled, unshuffled, rotated, rowSum, mixed, stepped, unstepped};
+ghost use Rattle.cells.specs.Qarma64.{qarma64, entries, bitStepped, bitUnstepped, bitMoved};
+
+// The mix: row x of the entries (x, j), by which cell j is rotated left; 0 stands for "-", which adds nothing.
+const ENTRIES: [[u8; 4]; 4] = [[0, 1, 2, 1], [1, 0, 1, 2], [2, 1, 0, 1], [1, 2, 1, 0]];
+
+// A cell rotated left by k within its 4 bits, and 0 for "-".
+fn rotate(k: u8, x: u8) -> u8
+    requires { ⌜ k < 5 ⌝ }
+    ensures { λ r. ⌜ r ≡ rotated 4 k x ⌝ }
+{
+    if k == 0 {
+        return 0;
+    }
+    ((x << k) & 15) ^ (x >> (4 - k))
+}
+
+// Row x of the entries over one column.
+fn mix_cell(x: usize, column: [u8; 4]) -> u8
+    requires { ⌜ x < 4 ⌝ }
+    ensures { λ r. ⌜ r ≡ rowSum 4 entries (λ j. column ! j) x ⌝ }
+{
+    let mut sum = 0;
+    for j in 0..4 {
+        sum ^= rotate(ENTRIES[x][j], column[j]);
+    }
+    sum
+}
+
+// The mix of one column.
+fn mix_column(column: [u8; 4]) -> [u8; 4]
+    ensures { λ r. ⌜ r ≡ upto 4 (rowSum 4 entries (λ j. column ! j)) ⌝ }
+{
+    let mut out = [0u8; 4];
+    for x in 0..4 {
+        out[x] = mix_cell(x, column);
+    }
+    out
+}
+
+// A box as a word: the output for input v is cell v from the least significant.
+fn box_word(number: u64) -> u64
+    requires { ⌜ number < 3 ⌝ }
+    ensures { λ r. ⌜ nibbles r ≡ qarma64 .box number ⌝ }
+{
+    match number {
+        0 => 0x51CD7346B8F9A2E0,
+        1 => 0x421BC089537F6EDA,
+        _ => 0xA12D5473E90CF86B,
+    }
+}
+
+// The inverse of a box, in the same form.
+fn unbox_word(number: u64) -> u64
+    requires { ⌜ number < 3 ⌝ }
+    ensures { λ r. ⌜ nibbles r ≡ qarma64 .unbox number ⌝ }
+{
+    match number {
+        0 => 0x51CD7346B8F9A2E0,
+        1 => 0x421BC089537F6EDA,
+        _ => 0x37C40F6291BA8DE5,
+    }
+}
+
+fn wide(x: u8) -> u64
+    ensures { λ r. ⌜ r ≡ x ⌝ }
+{
+    x as u64
+}
+
+// The output of a box for one cell.
+fn look_up(table: u64, x: u8) -> u8
+    requires { ⌜ x < 16 ⌝ }
+    ensures { λ r. ⌜ r ≡ nibbles table ! x ⌝ }
+{
+    (table >> (4 * wide(x)) & 15) as u8
+}
+
+// The bits (b3 b2 b1 b0) of a cell become (b0+b1, b3, b2, b1).
+fn bit_step(x: u8) -> u8
+    ensures { λ r. ⌜ r ≡ bitStepped x ⌝ }
+{
+    (x ^ x / 2) % 2 * 8 + x / 2
+}
+
+// The bit step undone.
+fn bit_back(x: u8) -> u8
+    ensures { λ r. ⌜ r ≡ bitUnstepped x ⌝ }
+{
+    x % 8 * 2 + (x / 8 ^ x) % 2
+}
+
+// A cell kept (0), its bits stepped (1) or stepped back (2).
+fn move_bits(how: u8, x: u8) -> u8
+    ensures { λ r. ⌜ r ≡ bitMoved how x ⌝ }
+{
+    match how {
+        0 => x,
+        1 => bit_step(x),
+        _ => bit_back(x),
+    }
+}
+
+// The same for the four cells of a row.
+fn move_row(how: [u8; 4], row: [u8; 4]) -> [u8; 4]
+    ensures { λ r. ⌜ r ≡ upto 4 (λ y. bitMoved (how ! y) (row ! y)) ⌝ }
+{
+    let mut out = [0u8; 4];
+    for y in 0..4 {
+        out[y] = move_bits(how[y], row[y]);
+    }
+    out
+}
+
+// The cells of four rows.
+fn of_rows(r: [[u8; 4]; 4]) -> Cells
+    ensures { λ a. ⌜ a ≡ ofRows r ⌝ }
+{
+    let mut out = [0u8; 16];
+    for i in 0..16 {
+        out[i] = r[i / 4][i % 4];
+    }
+    Cells { at: out }
+}
+
+// A block, a tweak or a schedule word: sixteen cells, row by row in a square of 4 by 4.
+pub struct Cells {
+    pub at: [u8; 16],
+}
+
+impl Cells {
+    // The cells of a word, cell 0 the most significant.
+    pub fn of(w: u64) -> Cells
+        ensures { λ r. ⌜ r ≡ cut 4 w ⌝ }
+    {
+        let mut at = [0u8; 16];
+        words::write(&mut at, 4, w);
+        Cells { at }
+    }
+
+    // The word of the cells.
+    pub fn word(self) -> u64
+        requires { ⌜ Below 4 self ⌝ }
+        ensures { λ r. ⌜ r ≡ joined 4 self ⌝ }
+    {
+        let at = self.at;
+        words::read(&at, 4)
+    }
+
+    // The sum, cell by cell.
+    pub fn add(self, other: Cells) -> Cells
+        ensures { λ r. ⌜ r ≡ added self other ⌝ }
+    {
+        let mut out = [0u8; 16];
+        for i in 0..16 {
+            out[i] = self.at[i] ^ other.at[i];
+        }
+        Cells { at: out }
+    }
+
+    fn look(self, table: u64) -> Cells
+        requires { ⌜ Below 4 self ⌝ }
+        ensures { λ r. ⌜ r ≡ looked (nibbles table) self ⌝ }
+    {
+        let mut out = [0u8; 16];
+        for i in 0..16 {
+            out[i] = look_up(table, self.at[i]);
+        }
+        Cells { at: out }
+    }
+
+    // The box on each cell.
+    pub fn boxed(self, number: u64) -> Cells
+        requires { ⌜ (number < 3) × Below 4 self ⌝ }
+        ensures { λ r. ⌜ r ≡ looked (qarma64 .box number) self ⌝ }
+    {
+        self.look(box_word(number))
+    }
+
+    // The inverse box on each cell.
+    pub fn unboxed(self, number: u64) -> Cells
+        requires { ⌜ (number < 3) × Below 4 self ⌝ }
+        ensures { λ r. ⌜ r ≡ looked (qarma64 .unbox number) self ⌝ }
+    {
+        self.look(unbox_word(number))
+    }
+
+    // Four cells, by their numbers.
+    fn take(self, i: usize, j: usize, k: usize, l: usize) -> [u8; 4]
+        requires { ⌜ ((i < 16) × (j < 16)) × ((k < 16) × (l < 16)) ⌝ }
+        ensures { λ r. ⌜ r ≡ cell self i ∷ cell self j ∷ cell self k ∷ cell self l ∷ [] ⌝ }
+    {
+        let a = self.at;
+        [a[i], a[j], a[k], a[l]]
+    }
+
+    // The cell shuffle.
+    pub fn shuffle(self) -> Cells
+        ensures { λ r. ⌜ r ≡ shuffled self ⌝ }
+    {
+        of_rows([
+            self.take(0, 11, 6, 13),
+            self.take(10, 1, 12, 7),
+            self.take(5, 14, 3, 8),
+            self.take(15, 4, 9, 2),
+        ])
+    }
+
+    // The cell shuffle undone.
+    pub fn unshuffle(self) -> Cells
+        ensures { λ r. ⌜ r ≡ unshuffled self ⌝ }
+    {
+        of_rows([
+            self.take(0, 5, 15, 10),
+            self.take(13, 8, 2, 7),
+            self.take(11, 14, 4, 1),
+            self.take(6, 3, 9, 12),
+        ])
+    }
+
+    // The square with its columns as rows.
+    fn transpose(self) -> Cells
+        ensures { λ r. ⌜ r ≡ transposed self ⌝ }
+    {
+        of_rows([
+            self.take(0, 4, 8, 12),
+            self.take(1, 5, 9, 13),
+            self.take(2, 6, 10, 14),
+            self.take(3, 7, 11, 15),
+        ])
+    }
+
+    // The mix, column by column. It is its own inverse.
+    pub fn mix(self) -> Cells
+        ensures { λ r. ⌜ r ≡ mixed qarma64 self ⌝ }
+    {
+        of_rows([
+            mix_column(self.take(0, 4, 8, 12)),
+            mix_column(self.take(1, 5, 9, 13)),
+            mix_column(self.take(2, 6, 10, 14)),
+            mix_column(self.take(3, 7, 11, 15)),
+        ]).transpose()
+    }
+
+    // The tweak step.
+    pub fn step(self) -> Cells
+        ensures { λ r. ⌜ r ≡ stepped qarma64 self ⌝ }
+    {
+        of_rows([
+            move_row([1, 1, 0, 1], self.take(6, 5, 14, 15)),
+            move_row([1, 0, 0, 0], self.take(0, 1, 2, 3)),
+            move_row([1, 0, 0, 1], self.take(7, 12, 13, 4)),
+            move_row([0, 1, 0, 0], self.take(8, 9, 10, 11)),
+        ])
+    }
+
+    // The tweak stepped back.
+    pub fn unstep(self) -> Cells
+        ensures { λ r. ⌜ r ≡ unstepped qarma64 self ⌝ }
+    {
+        of_rows([
+            move_row([2, 0, 0, 0], self.take(4, 5, 6, 7)),
+            move_row([2, 2, 2, 2], self.take(11, 1, 0, 8)),
+            move_row([0, 2, 0, 0], self.take(12, 13, 14, 15)),
+            move_row([0, 0, 0, 2], self.take(9, 10, 2, 3)),
+        ])
+    }
+}

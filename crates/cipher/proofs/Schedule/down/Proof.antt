@@ -1,0 +1,20 @@
+-- `Schedule::down` meets its contract: the round, then the step.
+use mathlib.Core.Path.{ap, _∙_}
+use Rattle.cells.specs.Qarma64.{qarma64}
+use Rattle.cipher.specs.Engine.{forward}
+use borrow.Author.Needs.{needs}
+use Rattle.cells.proofs.Lawful.{lawful64}
+use Rattle.cipher.proofs.Rounds.{forward-word-below}
+use Rattle.cipher.proofs.Schedule.down.Statement.{statement}
+use Rattle.cipher.proofs.Schedule.down.Tie as tie
+
+pub down-spec : {M : Type 1} → statement M
+down-spec =
+    tie.close
+    (tie.spec
+    (λ c κs. search needs)
+    (λ c κs. let pre = c .before .before .before .pre in (pre .0, (pre .1 .1 .1 .block, rw (c .forward-word .ensures) (forward-word-below lawful64 (pre .1 .0) (pre .1 .1 .0) (pre .1 .1 .1 .tweak)))))
+    (λ c κs. search needs)
+    (λ c.
+    let args = c .before .before .before .before .before .args in
+    (c .before .forward-round .ensures ∙ ap (forward qarma64 (args .number) (args .state .block)) (c .before .before .forward-word .ensures), c .step .ensures)))

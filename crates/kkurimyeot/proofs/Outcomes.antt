@@ -1,0 +1,19 @@
+-- One outcome: each public contract of `kkurimyeot` leaves one answer and one content of lent memory.
+use mathlib.Core.Path.{_≡_, refl, sym, _∙_}
+use Rattle.words.proofs.Decided.{Decided}
+use Rattle.kkurimyeot.proofs
+
+pub schedule-decided : Decided proofs.kk_schedule.Kinds.ps proofs.kk_schedule.Kinds.r proofs.kk_schedule.Reads.Post
+schedule-decided κs a x y v w p q = ((λ i. (p ∙ sym q) i .0), λ i. (tt, (tt, ((p ∙ sym q) i .1, tt))))
+
+pub turn-decided : Decided proofs.kk_turn.Kinds.ps proofs.kk_turn.Kinds.r proofs.kk_turn.Reads.Post
+turn-decided κs a x y v w p q = ((λ i. (p ∙ sym q) i .0), λ i. (tt, (tt, (tt, (tt, ((p ∙ sym q) i .1, tt))))))
+
+pub engine-decided : Decided proofs.kk_engine.Kinds.ps proofs.kk_engine.Kinds.r proofs.kk_engine.Reads.Post
+engine-decided κs a x y v w p q = ((λ i. (p ∙ sym q) i .0), λ i. (tt, (tt, (tt, (tt, (tt, (tt, (tt, (tt, ((p ∙ sym q) i .1, tt))))))))))
+
+pub encipher-decided : Decided proofs.kk_encipher.Kinds.ps proofs.kk_encipher.Kinds.r proofs.kk_encipher.Reads.Post
+encipher-decided κs a x y v w p q = ((λ i. (p ∙ sym q) i .0), λ i. (tt, (tt, (tt, (tt, (tt, (tt, ((p ∙ sym q) i .1, tt))))))))
+
+pub decipher-decided : Decided proofs.kk_decipher.Kinds.ps proofs.kk_decipher.Kinds.r proofs.kk_decipher.Reads.Post
+decipher-decided κs a x y v w p q = ((λ i. (p ∙ sym q) i .0), λ i. (tt, (tt, (tt, (tt, (tt, (tt, ((p ∙ sym q) i .1, tt))))))))

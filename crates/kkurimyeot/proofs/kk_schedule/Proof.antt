@@ -1,0 +1,18 @@
+-- `kk_schedule` meets its contract: what the cipher answers, through C.
+use borrow.Author.Needs.{needs}
+use mathlib.Core.Path.{ap, _∙_}
+use Rattle.cipher.specs.declared.Words.{Words}
+use Rattle.kkurimyeot.specs.Calls.{given, fourWords, returning}
+use Rattle.kkurimyeot.proofs.kk_schedule.Statement.{statement}
+use Rattle.kkurimyeot.proofs.kk_schedule.Tie as tie
+
+pub kk-schedule-spec : {M : Type 1} → statement M
+kk-schedule-spec =
+    tie.close
+    (tie.spec
+    (λ c κs. search needs)
+    (λ c κs. search needs)
+    (λ c. search needs)
+    (λ c.
+    let out = c .before .before .before .before .before .before .args .out .now in
+    c .before .before .give-words .ensures ∙ ap (λ (b : Words). returning (given (fourWords b) out)) (c .before .before .before .before .key-words .ensures)))

@@ -1,0 +1,128 @@
+// The calls of the C interface: numbers and byte slices in, one number out.
+use cipher::Block;
+use cipher::Words;
+use refusals::Answer;
+use refusals::Refusal;
+ghost use mathlib.Core.Path.{_≡_};
+ghost use mathlib.Core.List.{_++_};
+ghost use Prim.Native.Nat.{_*_, _≤_};
+ghost use lib.ListN.{length, getD, drop};
+ghost use Rattle.words.specs.Digits.{laid};
+ghost use Rattle.cipher.specs.Words.{keyWords, turnedWords, engineCall, encipherCall, decipherCall};
+ghost use Rattle.kkurimyeot.specs.Calls.{given, blockGiven, fourWords, returning};
+
+// Writes each word into its own place of out, 8 bytes a word.
+fn put(list: &[u64], out: &mut [u8])
+    requires { ⌜ length (now list) * 8 ≤ length (now out) ⌝ }
+    ensures { λ _. ⌜ now (out .exit) ≡ laid (length (now (list .entry))) (λ i. getD (now (list .entry)) i 0) ++ drop (length (now (list .entry)) * 8) (now (out .entry)) ⌝ }
+{
+    let mut i = 0;
+    while i < list.len() {
+        let at = i * 8;
+        words::write(&mut out[at..at + 8], 8, list[i]);
+        i += 1;
+    }
+}
+
+// Words to the first bytes of out, or refusal 5.
+fn give(list: &[u64], out: &mut [u8]) -> Answer
+    requires { ⌜ length (now list) ≤ 5 ⌝ }
+    ensures { λ r. ⌜ (r, now (out .exit)) ≡ given (now (list .entry)) (now (out .entry)) ⌝ }
+{
+    let size = list.len() * 8;
+    if out.len() < size {
+        return Answer::Refused(Refusal::Room);
+    }
+    put(list, out);
+    Answer::Wrote { count: size as u32 }
+}
+
+// What a block call answers, through C.
+fn give_block(answer: Block, out: &mut [u8]) -> u64
+    ensures { λ r. ⌜ (r, now (out .exit)) ≡ returning (blockGiven answer (now (out .entry))) ⌝ }
+{
+    match answer {
+        Block::Word(w) => {
+            let one = [w];
+            refusals::returned(give(&one, out))
+        }
+        Block::Refused(r) => refusals::returned(Answer::Refused(r)),
+    }
+}
+
+// The four words of a schedule, through C.
+fn give_words(s: Words, out: &mut [u8]) -> u64
+    ensures { λ r. ⌜ (r, now (out .exit)) ≡ returning (given (fourWords s) (now (out .entry))) ⌝ }
+{
+    let four = [s.w0, s.w1, s.k0, s.k1];
+    refusals::returned(give(&four, out))
+}
+
+// The schedule of a key: w0, w1, k0, k1.
+#[no_mangle]
+pub extern "C" fn kk_schedule(w0: u64, k0: u64, out: &mut [u8]) -> u64
+    ensures { λ r. ⌜ (r, now (out .exit)) ≡ returning (given (fourWords (keyWords w0 k0)) (now (out .entry))) ⌝ }
+{
+    give_words(cipher::key_words(w0, k0), out)
+}
+
+// A schedule turned: w0, w1, k0, k1.
+#[no_mangle]
+pub extern "C" fn kk_turn(w0: u64, w1: u64, k0: u64, k1: u64, out: &mut [u8]) -> u64
+    ensures { λ r. ⌜ (r, now (out .exit)) ≡ returning (given (fourWords (turnedWords record { w0 = w0; w1 = w1; k0 = k0; k1 = k1 })) (now (out .entry))) ⌝ }
+{
+    give_words(cipher::turn_words(Words { w0, w1, k0, k1 }), out)
+}
+
+// The engine on a block under a tweak and four free words.
+#[no_mangle]
+pub extern "C" fn kk_engine(
+    number: u64,
+    rounds: u64,
+    w0: u64,
+    w1: u64,
+    k0: u64,
+    k1: u64,
+    tweak: u64,
+    block: u64,
+    out: &mut [u8],
+) -> u64
+    ensures { λ r. ⌜ (r, now (out .exit)) ≡ returning (blockGiven (engineCall number rounds record { w0 = w0; w1 = w1; k0 = k0; k1 = k1 } tweak block) (now (out .entry))) ⌝ }
+{
+    give_block(
+        cipher::run(number, rounds, Words { w0, w1, k0, k1 }, tweak, block),
+        out,
+    )
+}
+
+// A block enciphered under a tweak and a key.
+#[no_mangle]
+pub extern "C" fn kk_encipher(
+    number: u64,
+    rounds: u64,
+    w0: u64,
+    k0: u64,
+    tweak: u64,
+    block: u64,
+    out: &mut [u8],
+) -> u64
+    ensures { λ r. ⌜ (r, now (out .exit)) ≡ returning (blockGiven (encipherCall number rounds w0 k0 tweak block) (now (out .entry))) ⌝ }
+{
+    give_block(cipher::encipher(number, rounds, w0, k0, tweak, block), out)
+}
+
+// A block deciphered: the engine under the turned schedule of the key, and nothing else.
+#[no_mangle]
+pub extern "C" fn kk_decipher(
+    number: u64,
+    rounds: u64,
+    w0: u64,
+    k0: u64,
+    tweak: u64,
+    block: u64,
+    out: &mut [u8],
+) -> u64
+    ensures { λ r. ⌜ (r, now (out .exit)) ≡ returning (blockGiven (decipherCall number rounds w0 k0 tweak block) (now (out .entry))) ⌝ }
+{
+    give_block(cipher::decipher(number, rounds, w0, k0, tweak, block), out)
+}

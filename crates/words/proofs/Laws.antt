@@ -1,0 +1,124 @@
+-- Laws of words and their digits, a turn of each loop, and the cases of `ifLe`.
+use mathlib.Core.Path.{_≡_, refl, sym, _∙_}
+use mathlib.Core.List.{List, [], _∷_, _++_, append-assoc, append-nil}
+use Prim.Native.Nat.{ℕ, zero, suc, _+_, _*_, _/_, _%_, _^_, _<_, _≤_, _-_}
+use native.Mathlib.Nat.{mul-zero, mul-suc, mul-one, mul-assoc, one-mul, add-comm, add-zero, zero-add, le-refl, le-trans, lt-of-lt-of-le, lt-of-le-of-lt, le-add-right, le-mul-of-pos-right, mul-le-mul-right, mod-lt, mod-eq-of-lt}
+use native.Mathlib.Numerals.{add-one, sub-one}
+use native.Mathlib.Omega.{arith}
+use mir.Syntax.{w8}
+use mir.Val.{Fits}
+use borrow.Author.Tests.{le-leb, lt-leb}
+use borrow.Rule.Slice.PartMut.{putMid}
+use lib.Arith.{lt-one, digits-lt}
+use lib.Bits.{bitAnd, and-mask}
+use lib.Dec.{lit<}
+use lib.ListN.{length, getD, drop, set, length-append}
+use lib.Pow.{pow-pos, pow-mono, pow-add, shl-exact, shr-lt, split, high, low}
+use lib.Seq.{drop-cons, lt-length-set, getD-set-same, drop-set-lt, take-at, drop-at, drop-drop}
+use Rattle.words.specs.Cases.{ifLe}
+use Rattle.words.specs.Digits.{wordFrom, word, digits, Digits, none, more, laid}
+
+-- ---- there and back
+
+pub word-append : (m a : ℕ) (xs ys : List ℕ) → wordFrom m a (xs ++ ys) ≡ wordFrom m (wordFrom m a xs) ys
+word-append m a [] ys = refl
+word-append m a (x ∷ xs) ys = word-append m (a * 2 ^ m + x) xs ys
+
+pub word-digits : (m n w : ℕ) → w < 2 ^ (m * n) → word m (digits m n w) ≡ w
+word-digits m zero w h = sym (lt-one (rw mul-zero at h))
+word-digits m (suc n) w h = rw (word-append, word-digits m n (w / 2 ^ m) (shr-lt (m * n) m (rw mul-suc at h))) (split w m)
+
+digits-from : {m : ℕ} {ds : List ℕ} (j a : ℕ) → Digits m ds → digits m (j + length ds) (wordFrom m a ds) ≡ digits m j a ++ ds
+digits-from j a none = rw (add-zero, append-nil)
+digits-from {m} j a (more {d = d} {ds = ds} hd h) =
+    let e : j + suc (length ds) ≡ suc j + length ds = omega arith in
+    rw (e, digits-from (suc j) (a * 2 ^ m + d) h, high a m hd, low a m hd, append-assoc)
+
+pub digits-word : {m : ℕ} {ds : List ℕ} → Digits m ds → digits m (length ds) (word m ds) ≡ ds
+digits-word h = rw zero-add at (digits-from 0 0 h)
+
+-- ---- digits
+
+pub length-digits : (m n w : ℕ) → length (digits m n w) ≡ n
+length-digits m zero w = refl
+length-digits m (suc n) w = rw (length-append, length-digits m n (w / 2 ^ m), add-one)
+
+digits-append : {m : ℕ} {xs ys : List ℕ} → Digits m xs → Digits m ys → Digits m (xs ++ ys)
+digits-append none k = k
+digits-append (more hd h) k = more hd (digits-append h k)
+
+pub digits-below : (m n w : ℕ) → Digits m (digits m n w)
+digits-below m zero w = none
+digits-below m (suc n) w = digits-append (digits-below m n (w / 2 ^ m)) (more (mod-lt w (pow-pos m)) none)
+
+-- what owning a slice of bytes tells
+pub bytes : (s : List ℕ) → ((i : ℕ) → Fits w8 (getD s i 0)) → Digits 8 s
+bytes [] h = none
+bytes (x ∷ xs) h = more (h 0 .fits) (bytes xs (λ i. h (suc i)))
+
+-- ---- size
+
+word-under : {m : ℕ} {ds : List ℕ} (a : ℕ) → Digits m ds → wordFrom m a ds < suc a * 2 ^ (m * length ds)
+word-under a none = rw (mul-zero, mul-one) (le-refl (suc a))
+word-under {m} a (more {d = d} {ds = ds} hd h) =
+    rw (mul-suc, add-comm (m * length ds) m, pow-add, ← mul-assoc)
+    (lt-of-lt-of-le (word-under (a * 2 ^ m + d) h) (mul-le-mul-right (2 ^ (m * length ds)) (digits-lt (le-refl (suc a)) hd)))
+
+pub word-lt : {m : ℕ} {ds : List ℕ} → Digits m ds → word m ds < 2 ^ (m * length ds)
+word-lt h = rw one-mul at (word-under 0 h)
+
+pub word-fits : {m : ℕ} {ds : List ℕ} → Digits m ds → m * length ds ≤ 64 → word m ds < 2 ^ 64
+word-fits h k = lt-of-lt-of-le (word-lt h) (pow-mono k)
+
+-- a word is at least what its first digits make
+grows : (m a : ℕ) (ds : List ℕ) → a ≤ wordFrom m a ds
+grows m a [] = le-refl a
+grows m a (d ∷ ds) = le-trans (le-trans (le-mul-of-pos-right a (pow-pos m)) (le-add-right (a * 2 ^ m) d)) (grows m (a * 2 ^ m + d) ds)
+
+-- ---- a turn of each loop, as the machine computes it
+
+-- `read`: x, then the digit at i, in 64 bits
+pub read-turn : (m x i : ℕ) (s : List ℕ) → i < length s → wordFrom m x (drop i s) ≡ word m s → word m s < 2 ^ 64
+    → (x * 2 ^ m % 2 ^ 64 + getD s i 0 < 2 ^ 64) × (wordFrom m (x * 2 ^ m % 2 ^ 64 + getD s i 0) (drop (i + 1) s) ≡ word m s)
+read-turn m x i s h e f =
+    let next : wordFrom m (x * 2 ^ m + getD s i 0) (drop (i + 1) s) ≡ word m s = rw add-one (rw (drop-cons s i 0) at e) in
+    let under : x * 2 ^ m + getD s i 0 < 2 ^ 64 = lt-of-le-of-lt (grows m (x * 2 ^ m + getD s i 0) (drop (i + 1) s)) (rw next f) in
+    rw (mod-eq-of-lt (lt-of-le-of-lt (le-add-right (x * 2 ^ m) (getD s i 0)) under)) (under, next)
+
+pub power : (m w : ℕ) → m < w → 1 * 2 ^ m % 2 ^ w ≡ 2 ^ m
+power m w h = shl-exact 1 m w (lit< tt) (omega arith) ∙ one-mul (2 ^ m)
+
+pub mask : (m x : ℕ) → m ≤ 8 → bitAnd x (1 * 2 ^ m % 2 ^ 64 - 1) ≡ x % 2 ^ m
+mask m x h = rw (power m 64 (omega arith)) (and-mask x m)
+
+-- `write`: the last digit of x goes to i - 1
+pub write-turn : (m i x : ℕ) (out : List ℕ) → 0 < i → i ≤ length out
+    → digits m (i - 1) (x / 2 ^ m) ++ drop (i - 1) (set out (i - 1) (x % 2 ^ m)) ≡ digits m i x ++ drop i out
+write-turn m zero x out h k = absurd (omega arith)
+write-turn m (suc i) x out h k =
+    rw (sub-one, append-assoc, drop-cons (set out i (x % 2 ^ m)) i 0 (lt-length-set out i _ k), getD-set-same out i _ 0 k, drop-set-lt (suc i) out i _ (le-refl (suc i)))
+
+-- ---- words in their places: after i words of f, the rest of the slice is as it was
+
+pub length-laid : (n : ℕ) (f : ℕ → ℕ) → length (laid n f) ≡ n * 8
+length-laid zero f = refl
+length-laid (suc n) f = rw (length-append, length-laid n f, length-digits) (omega arith)
+
+-- a part in the middle is replaced: b stands before it, and d is what was there
+mid-turn : (b d ys : List ℕ) (a k e : ℕ) → length b ≡ a → a + k ≡ e → putMid a k (b ++ drop a d) ys ≡ (b ++ ys) ++ drop e d
+mid-turn b d ys a k e h p = rw (take-at b (drop a d) a, drop-at b (drop a d) a, drop-drop, p, append-assoc)
+
+-- word i goes to its place
+pub laid-turn : (f : ℕ → ℕ) (d out ys : List ℕ) (i : ℕ) → out ≡ laid i f ++ drop (i * 8) d → ys ≡ digits 8 8 (f i)
+    → putMid (i * 8) (i * 8 + 8 - i * 8) out ys ≡ laid (i + 1) f ++ drop ((i + 1) * 8) d
+laid-turn f d out ys i o y = rw (add-one, o, y) (mid-turn (laid i f) d _ (i * 8) (i * 8 + 8 - i * 8) (suc i * 8) (length-laid i f) (omega arith))
+
+-- ---- which case an answer is
+
+pub le-case : {A : Type 0} (m n : ℕ) (a b : A) → m ≤ n → a ≡ ifLe m n a b
+unfolding ifLe
+le-case m n a b h = rw (le-leb m n h, ifLe)
+
+pub gt-case : {A : Type 0} (m n : ℕ) (a b : A) → n < m → b ≡ ifLe m n a b
+unfolding ifLe
+gt-case m n a b h = rw (lt-leb m n h, ifLe)

@@ -1,0 +1,12 @@
+//! Compares the library, through its C functions, with the second program.
+
+mod blocks;
+
+use second::harness::Tally;
+use std::process::ExitCode;
+
+fn main() -> ExitCode {
+    let mut tally = Tally::default();
+    blocks::compare(&mut tally);
+    tally.finish()
+}

@@ -1,0 +1,103 @@
+//! The library's C functions, as `include/kkurimyeot.h` declares them.
+
+use crate::qarma::{Key, Schedule};
+
+mod c {
+    extern "C" {
+        pub fn kk_schedule(w0: u64, k0: u64, out: *mut u8, out_length: usize) -> u64;
+        pub fn kk_turn(w0: u64, w1: u64, k0: u64, k1: u64, out: *mut u8, out_length: usize) -> u64;
+        pub fn kk_engine(
+            box_number: u64,
+            rounds: u64,
+            w0: u64,
+            w1: u64,
+            k0: u64,
+            k1: u64,
+            tweak: u64,
+            block: u64,
+            out: *mut u8,
+            out_length: usize,
+        ) -> u64;
+        pub fn kk_encipher(
+            box_number: u64,
+            rounds: u64,
+            w0: u64,
+            k0: u64,
+            tweak: u64,
+            block: u64,
+            out: *mut u8,
+            out_length: usize,
+        ) -> u64;
+        pub fn kk_decipher(
+            box_number: u64,
+            rounds: u64,
+            w0: u64,
+            k0: u64,
+            tweak: u64,
+            block: u64,
+            out: *mut u8,
+            out_length: usize,
+        ) -> u64;
+    }
+}
+
+// SAFETY, for each call below: the pointer and the length are those of one mutable slice, and the
+// library writes inside the slice it is lent and nowhere else.
+
+pub fn schedule(key: Key, out: &mut [u8]) -> u64 {
+    unsafe { c::kk_schedule(key.w0, key.k0, out.as_mut_ptr(), out.len()) }
+}
+
+pub fn turn(schedule: Schedule, out: &mut [u8]) -> u64 {
+    let Schedule { w0, w1, k0, k1 } = schedule;
+    unsafe { c::kk_turn(w0, w1, k0, k1, out.as_mut_ptr(), out.len()) }
+}
+
+pub fn engine(
+    box_number: u64,
+    rounds: u64,
+    schedule: Schedule,
+    tweak: u64,
+    block: u64,
+    out: &mut [u8],
+) -> u64 {
+    let Schedule { w0, w1, k0, k1 } = schedule;
+    let (place, room) = (out.as_mut_ptr(), out.len());
+    unsafe {
+        c::kk_engine(
+            box_number, rounds, w0, w1, k0, k1, tweak, block, place, room,
+        )
+    }
+}
+
+pub fn encipher(
+    box_number: u64,
+    rounds: u64,
+    key: Key,
+    tweak: u64,
+    block: u64,
+    out: &mut [u8],
+) -> u64 {
+    let (place, room) = (out.as_mut_ptr(), out.len());
+    unsafe {
+        c::kk_encipher(
+            box_number, rounds, key.w0, key.k0, tweak, block, place, room,
+        )
+    }
+}
+
+pub fn decipher(
+    box_number: u64,
+    rounds: u64,
+    key: Key,
+    tweak: u64,
+    block: u64,
+    out: &mut [u8],
+) -> u64 {
+    let (place, room) = (out.as_mut_ptr(), out.len());
+    unsafe {
+        c::kk_decipher(
+            box_number, rounds, key.w0, key.k0, tweak, block, place, room,
+        )
+    }
+}
