@@ -1,5 +1,5 @@
 -- One law for every loop that stores, at each place i of an array of k elements from 0 up, what stands at i in a list that is to come out.
-use mathlib.Core.Path.{_≡_, refl, sym, ap, _∙_}
+use mathlib.Core.Path.{_≡_, refl, sym, _∙_}
 use mathlib.Core.List.{List}
 use Prim.Native.Nat.{ℕ, _+_, _≤_, _<_}
 use native.Mathlib.Numerals.{add-one}
@@ -7,7 +7,7 @@ use native.Mathlib.Omega.{arith}
 use borrow.Author.Needs.{needs}
 use lib.ListN.{length, take, set, length-set}
 use lib.Seq.{take-suc, take-suc-set, take-all}
-use Rattle.cells.specs.Lists.{_!_, upto}
+use Rattle.cells.specs.Lists.{upto}
 use Rattle.cells.proofs.Upto.{upto-at, upto-length}
 
 -- the loop's invariant: the first i of k places of out are as in `upto k f`

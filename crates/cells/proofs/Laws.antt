@@ -9,7 +9,7 @@ use lib.ListN.{length}
 use Rattle.words.specs.Digits.{_⊕_}
 use Rattle.cells.specs.Lists.{_!_, among}
 use Rattle.cells.proofs.Tests.{undoes, Within}
-use Rattle.cells.specs.Cells.{cell, sixteen, Below, added, picked, looked, seven, onSeven}
+use Rattle.cells.specs.Cells.{cell, Below, added, picked, looked, seven, onSeven}
 use Rattle.cells.specs.declared.Cells.{Cells}
 use Rattle.cells.proofs.Upto.{sixteen-at, sixteen-is, sixteen-below, each, below}
 use Rattle.cells.proofs.Xor.{assoc}

@@ -1,14 +1,14 @@
 -- Words and their cells: cut and joined undo each other.
 use mathlib.Core.Path.{_≡_, sym, ap, _∙_}
 use mathlib.Core.List.{List, [], _∷_}
-use Prim.Native.Nat.{ℕ, zero, suc, _+_, _*_, _^_, _<_, suc-le-suc}
+use Prim.Native.Nat.{ℕ, zero, suc, _*_, _^_, _<_, suc-le-suc}
 use native.Mathlib.Nat.{zero-lt-suc}
 use native.Mathlib.Omega.{arith}
 use lib.ListN.{length}
 use Rattle.words.specs.Digits.{word, digits, Digits, none, more}
 use Rattle.words.proofs.Laws.{word-digits, digits-word, length-digits, digits-below}
 use Rattle.cells.specs.Lists.{_!_}
-use Rattle.cells.specs.Cells.{Below, cell, cut, joined}
+use Rattle.cells.specs.Cells.{Below, cut, joined}
 use Rattle.cells.specs.declared.Cells.{Cells}
 
 digits-of : {m : ℕ} (ds : List ℕ) → ((i : ℕ) → i < length ds → ds ! i < 2 ^ m) → Digits m ds

@@ -1,13 +1,13 @@
 -- What the library's laws of xor leave out: it is associative, terms may be sorted, and sums of many terms may be swapped.
 use mathlib.Core.Path.{_≡_, refl, sym, ap, ap₂, _∙_}
-use Prim.Native.Nat.{ℕ, zero, suc, _+_, _*_, _/_, _%_, _^_, _<_}
+use Prim.Native.Nat.{ℕ, zero, suc, _/_, _%_, _^_, _<_}
 use native.Mathlib.Nat.{mod-lt, zero-lt-suc}
 use native.Mathlib.Omega.{arith}
 use mathlib.Core.Bool.{Bool}
-use lib.Dec.{T, eqb, eqb→eq}
+use lib.Dec.{eqb, eqb→eq}
 use Rattle.cells.proofs.Upto.{each3}
 use lib.Arith.{bin-ind}
-use lib.Bits.{bitXor, differ, xor-step, xor-shr, xor-mod, xor-comm, xor-self, xor-zero-r, xor-lt}
+use lib.Bits.{differ, xor-step, xor-shr, xor-mod, xor-comm, xor-self, xor-lt}
 use lib.Pow.{pow-pos}
 use Rattle.words.specs.Digits.{_⊕_}
 use Rattle.cells.specs.Lists.{sum}

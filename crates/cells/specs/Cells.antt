@@ -1,6 +1,6 @@
 -- Document 01, "The engine", over the cell width: what is done to sixteen cells of m bits.
 use mathlib.Core.Path.{_≡_}
-use mathlib.Core.Bool.{Bool, true, false}
+use mathlib.Core.Bool.{true, false}
 use mathlib.Core.List.{List, [], _∷_}
 use Prim.Native.Nat.{ℕ, zero, suc, _+_, _-_, _*_, _/_, _%_, _^_, _<_}
 use lib.ListN.{length, getD}
@@ -92,7 +92,10 @@ rotated m (suc k) x = (x * 2 ^ suc k % 2 ^ m) ⊕ (x / 2 ^ (m - suc k))
 abbrev pub rowSum : ℕ → List (List ℕ) → (ℕ → ℕ) → ℕ → ℕ
 rowSum m t column x = sum 4 (λ j. rotated m (entry t x j) (column j))
 
--- "Mix: on each column"
+-- "Mix: on each column": one column, and the square
+abbrev pub mixedColumn : ℕ → List (List ℕ) → List ℕ → List ℕ
+mixedColumn m t column = upto 4 (rowSum m t (λ j. column ! j))
+
 abbrev pub mixedAt : ℕ → List (List ℕ) → Cells → ℕ → ℕ → ℕ
 mixedAt m t a x y = rowSum m t (λ j. square a j y) x
 

@@ -3,7 +3,7 @@ use mathlib.Core.List.{List, [], _∷_}
 use Prim.Native.Nat.{ℕ, zero, suc, _+_, _*_, _/_, _%_}
 use lib.ListN.{getD}
 use Rattle.words.specs.Digits.{_⊕_}
-use Rattle.cells.specs.Lists.{_!_}
+use Rattle.cells.specs.Lists.{_!_, upto}
 use Rattle.cells.specs.Cells.{Cipher, cut}
 
 -- "Boxes, for inputs 0 to 15"
@@ -38,6 +38,10 @@ abbrev pub bitMoved : ℕ → ℕ → ℕ
 bitMoved zero v = v
 bitMoved (suc zero) v = bitStepped v
 bitMoved (suc (suc n)) v = bitUnstepped v
+
+-- each cell of a row by its own number of these
+abbrev pub movedRow : List ℕ → List ℕ → List ℕ
+movedRow how row = upto 4 (λ y. bitMoved (how ! y) (row ! y))
 
 -- "Constants in hexadecimal, c0 to c7", and "Alpha"
 abbrev pub constants : List ℕ

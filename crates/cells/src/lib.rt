@@ -2,9 +2,9 @@
 ghost use mathlib.Core.Path.{_≡_};
 ghost use mathlib.Core.List.{[], _∷_};
 ghost use Prim.Native.Nat.{_<_};
-ghost use Rattle.cells.specs.Lists.{_!_, upto, nibbles};
-ghost use Rattle.cells.specs.Cells.{Below, cell, ofRows, transposed, cut, joined, added, looked, shuffled, unshuffled, rotated, rowSum, mixed, stepped, unstepped};
-ghost use Rattle.cells.specs.Qarma64.{qarma64, entries, bitStepped, bitUnstepped, bitMoved};
+ghost use Rattle.cells.specs.Lists.{_!_, nibbles};
+ghost use Rattle.cells.specs.Cells.{Below, cell, ofRows, transposed, cut, joined, added, looked, shuffled, unshuffled, rotated, rowSum, mixedColumn, mixed, stepped, unstepped};
+ghost use Rattle.cells.specs.Qarma64.{qarma64, entries, bitStepped, bitUnstepped, bitMoved, movedRow};
 
 // The mix: row x of the entries (x, j), by which cell j is rotated left; 0 stands for "-", which adds nothing.
 const ENTRIES: [[u8; 4]; 4] = [[0, 1, 2, 1], [1, 0, 1, 2], [2, 1, 0, 1], [1, 2, 1, 0]];
@@ -34,7 +34,7 @@ fn mix_cell(x: usize, column: [u8; 4]) -> u8
 
 // The mix of one column.
 fn mix_column(column: [u8; 4]) -> [u8; 4]
-    ensures { λ r. ⌜ r ≡ upto 4 (rowSum 4 entries (λ j. column ! j)) ⌝ }
+    ensures { λ r. ⌜ r ≡ mixedColumn 4 entries column ⌝ }
 {
     let mut out = [0u8; 4];
     for x in 0..4 {
@@ -108,7 +108,7 @@ fn move_bits(how: u8, x: u8) -> u8
 
 // The same for the four cells of a row.
 fn move_row(how: [u8; 4], row: [u8; 4]) -> [u8; 4]
-    ensures { λ r. ⌜ r ≡ upto 4 (λ y. bitMoved (how ! y) (row ! y)) ⌝ }
+    ensures { λ r. ⌜ r ≡ movedRow how row ⌝ }
 {
     let mut out = [0u8; 4];
     for y in 0..4 {

@@ -1,6 +1,6 @@
 -- Demand 3 and demand 2's engine sentence for QARMA-64 on numbers: what the block calls are proved to answer.
-use mathlib.Core.Path.{_≡_, sym, ap, ap₂, _∙_}
-use Prim.Native.Nat.{ℕ, _*_, _^_, _<_, _≤_}
+use mathlib.Core.Path.{_≡_, sym, ap, _∙_}
+use Prim.Native.Nat.{ℕ, _^_, _<_, _≤_}
 use native.Mathlib.Omega.{arith}
 use Rattle.words.proofs.Laws.{le-case, gt-case}
 use Rattle.refusals.specs.declared.Refusal.the-variants.{Settings}
@@ -10,7 +10,7 @@ use Rattle.cells.specs.Qarma64.{qarma64}
 use Rattle.cells.proofs.Lawful.{lawful64}
 use Rattle.cells.proofs.Words.{cut-below, joined-cut, cut-joined}
 use Rattle.cipher.specs.Engine.{ScheduleBelow, scheduleOf, outer, keySchedule, engine, turned}
-use Rattle.cipher.specs.Words.{cutWords, wordsOf, turnedWords, engineWord, ran, engineCall, encipherCall, decipherCall}
+use Rattle.cipher.specs.Words.{cutWords, wordsOf, turnedWords, engineWord, ran, encipherCall, decipherCall}
 use Rattle.cipher.specs.declared.Schedule.{Schedule}
 use Rattle.cipher.specs.declared.Words.{Words}
 use Rattle.cipher.specs.declared.Block.{Block}

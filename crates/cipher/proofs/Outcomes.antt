@@ -1,5 +1,5 @@
 -- One outcome: each public contract of `cipher` leaves one answer and one content of lent memory.
-use mathlib.Core.Path.{_≡_, refl, sym, _∙_}
+use mathlib.Core.Path.{refl, sym, _∙_}
 use Rattle.words.proofs.Decided.{Decided}
 use Rattle.cipher.proofs
 

@@ -1,7 +1,7 @@
 -- The laws of rounds and steps, over the cell width: they keep to the cells, and a backward round undoes a forward one.
 use mathlib.Core.Path.{_≡_, ap, ap₂, _∙_}
 use Prim.Native.Nat.{ℕ, zero, suc, _<_}
-use Rattle.cells.specs.Cells.{Cipher, Below, added, looked, shuffled, unshuffled, mixed, stepped, unstepped}
+use Rattle.cells.specs.Cells.{Cipher, Below, added, looked, shuffled, unshuffled, mixed}
 use Rattle.cells.specs.declared.Cells.{Cells}
 use Rattle.cells.proofs.Laws.{added-below, added-twice}
 use Rattle.cells.proofs.Mix.{mixed-added}

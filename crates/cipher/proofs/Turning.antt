@@ -1,12 +1,12 @@
 -- Demand 3, over the cell width: the engine under the turned schedule undoes the engine under the first, in either order,
 -- and turning twice gives the first schedule back. Each step under the turned schedule undoes the step that answers it.
-use mathlib.Core.Path.{_≡_, refl, sym, ap, ap₂, _∙_}
+use mathlib.Core.Path.{_≡_, refl, sym, ap, _∙_}
 use Prim.Native.Nat.{ℕ, zero, suc, _<_}
 use Rattle.cells.specs.Cells.{Cipher, Below, added, mixed, stepped, unstepped}
 use Rattle.cells.specs.declared.Cells.{Cells}
 use Rattle.cells.proofs.Laws.{added-below, added-twice}
-use Rattle.cells.proofs.Lawful.{Lawful, mix-twice, unstep-stepped, step-unstepped, stepped-below, unstepped-below}
-use Rattle.cipher.specs.Engine.{ScheduleBelow, StateBelow, forward, backward, forwardAt, backwardAt, forwardWord, backwardWord, down, downs, centre, middle, up, ups, engine, turned}
+use Rattle.cells.proofs.Lawful.{Lawful, mix-twice, unstep-stepped, step-unstepped, unstepped-below}
+use Rattle.cipher.specs.Engine.{ScheduleBelow, StateBelow, backward, forwardAt, backwardAt, forwardWord, backwardWord, down, downs, centre, middle, up, ups, engine, turned}
 use Rattle.cipher.specs.declared.Schedule.{Schedule}
 use Rattle.cipher.specs.declared.State.{State}
 use Rattle.cipher.proofs.Rounds.{forward-below, centre-below, backward-forward, forward-backward, backward-forward-at, forward-backward-at, forward-word-below, backward-word-below, downs-below, middle-below, up-below, ups-below, centre-twice, turned-below}

@@ -1,16 +1,11 @@
 -- Document 01, "Examples on both sides": the examples marked P, as one table. A row has what the definitions give, and what the paper says.
 use mathlib.Core.List.{List, [], _∷_}
 use Prim.Native.Nat.{ℕ}
-use Rattle.cells.specs.Lists.{_!_, upto}
-use Rattle.cells.specs.Cells.{cut, joined, shuffled, rowSum, stepped}
+use Rattle.cells.specs.Cells.{cut, joined, shuffled, mixedColumn, stepped}
 use Rattle.cells.specs.Qarma64.{qarma64, entries, bitStepped}
 use Rattle.cipher.specs.Engine.{outer}
 use Rattle.cipher.specs.Words.{turnedWords}
 use Rattle.kkurimyeot.specs.Calls.{fourWords}
-
--- the mix of one column
-abbrev mixedColumn : List ℕ → List ℕ
-mixedColumn column = upto 4 (rowSum 4 entries (λ j. column ! j))
 
 -- the tweak step on a word
 abbrev steppedWord : ℕ → List ℕ
@@ -29,8 +24,8 @@ table =
     -- P4, shuffle
     ∷ (joined 4 (shuffled (cut 4 0x0123456789ABCDEF)) ∷ [], 0x0B6DA1C75E38F492 ∷ [])
     -- P5 and P6, mix
-    ∷ (mixedColumn (1 ∷ 0 ∷ 0 ∷ 0 ∷ []), 0 ∷ 2 ∷ 4 ∷ 2 ∷ [])
-    ∷ (mixedColumn (0 ∷ 2 ∷ 4 ∷ 2 ∷ []), 1 ∷ 0 ∷ 0 ∷ 0 ∷ [])
+    ∷ (mixedColumn 4 entries (1 ∷ 0 ∷ 0 ∷ 0 ∷ []), 0 ∷ 2 ∷ 4 ∷ 2 ∷ [])
+    ∷ (mixedColumn 4 entries (0 ∷ 2 ∷ 4 ∷ 2 ∷ []), 1 ∷ 0 ∷ 0 ∷ 0 ∷ [])
     -- P7 and P8, the bit step on one cell
     ∷ (bitStepped 1 ∷ [], 8 ∷ [])
     ∷ (bitStepped 3 ∷ [], 1 ∷ [])

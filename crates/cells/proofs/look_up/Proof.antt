@@ -1,7 +1,7 @@
 -- `look_up` meets its contract: the cell that is shifted down and masked is the one that the table has there.
 use borrow.Author.Needs.{needs}
-use mathlib.Core.Path.{_≡_, sym, _∙_}
-use Prim.Native.Nat.{ℕ, _*_, _/_, _%_, _^_}
+use mathlib.Core.Path.{sym, _∙_}
+use Prim.Native.Nat.{_*_, _/_, _%_, _^_}
 use native.Mathlib.Omega.{arith}
 use lib.Bits.{and-mask, mask-lt}
 use Rattle.cells.specs.Lists.{nibbles}

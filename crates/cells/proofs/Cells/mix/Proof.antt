@@ -1,17 +1,12 @@
 -- `Cells::mix` meets its contract: the definition computes to these columns, transposed.
 use borrow.Author.Needs.{needs}
 use mathlib.Core.Path.{ap, _∙_}
-use mathlib.Core.List.{List}
-use Prim.Native.Nat.{ℕ}
-use Rattle.cells.specs.Lists.{_!_, upto}
-use Rattle.cells.specs.Cells.{ofRows, transposed, rowSum, mixedBy}
+use Rattle.cells.specs.Lists.{upto}
+use Rattle.cells.specs.Cells.{ofRows, transposed, mixedColumn, mixedBy}
 use Rattle.cells.specs.Qarma64.{entries}
 use Rattle.cells.proofs.Laws.{four}
 use Rattle.cells.proofs.Cells.mix.Statement.{statement}
 use Rattle.cells.proofs.Cells.mix.Tie as tie
-
-abbrev mixedColumn : List ℕ → List ℕ
-mixedColumn column = upto 4 (rowSum 4 entries (λ j. column ! j))
 
 pub mix-spec : {M : Type 1} → statement M
 unfolding ofRows transposed mixedBy upto
@@ -29,7 +24,7 @@ mix-spec =
     (λ c κs. search needs)
     (λ c κs. search needs)
     (λ c. c .transpose .ensures ∙ ap transposed (c .before .of-rows .ensures ∙ ap ofRows (four
-    (c .before .before .before .before .before .before .before .before .mix-column .ensures ∙ ap mixedColumn (c .before .before .before .before .before .before .before .before .before .take .ensures))
-    (c .before .before .before .before .before .before .mix-column2 .ensures ∙ ap mixedColumn (c .before .before .before .before .before .before .before .take2 .ensures))
-    (c .before .before .before .before .mix-column3 .ensures ∙ ap mixedColumn (c .before .before .before .before .before .take3 .ensures))
-    (c .before .before .mix-column4 .ensures ∙ ap mixedColumn (c .before .before .before .take4 .ensures))))))
+    (c .before .before .before .before .before .before .before .before .mix-column .ensures ∙ ap (mixedColumn 4 entries) (c .before .before .before .before .before .before .before .before .before .take .ensures))
+    (c .before .before .before .before .before .before .mix-column2 .ensures ∙ ap (mixedColumn 4 entries) (c .before .before .before .before .before .before .before .take2 .ensures))
+    (c .before .before .before .before .mix-column3 .ensures ∙ ap (mixedColumn 4 entries) (c .before .before .before .before .before .take3 .ensures))
+    (c .before .before .mix-column4 .ensures ∙ ap (mixedColumn 4 entries) (c .before .before .before .take4 .ensures))))))

@@ -1,17 +1,13 @@
 -- `Cells::step` meets its contract: the definition computes to these rows, their bits moved.
 use borrow.Author.Needs.{needs}
 use mathlib.Core.Path.{ap, _∙_}
-use mathlib.Core.List.{List, [], _∷_}
-use Prim.Native.Nat.{ℕ}
-use Rattle.cells.specs.Lists.{_!_, upto}
+use mathlib.Core.List.{[], _∷_}
+use Rattle.cells.specs.Lists.{upto}
 use Rattle.cells.specs.Cells.{ofRows, picked, onSeven}
-use Rattle.cells.specs.Qarma64.{bitMoved}
+use Rattle.cells.specs.Qarma64.{movedRow}
 use Rattle.cells.proofs.Laws.{four}
 use Rattle.cells.proofs.Cells.step.Statement.{statement}
 use Rattle.cells.proofs.Cells.step.Tie as tie
-
-abbrev moved : List ℕ → List ℕ → List ℕ
-moved how row = upto 4 (λ y. bitMoved (how ! y) (row ! y))
 
 pub step-spec : {M : Type 1} → statement M
 unfolding ofRows picked onSeven upto
@@ -28,7 +24,7 @@ step-spec =
     (λ c κs. search needs)
     (λ c κs. search needs)
     (λ c. c .of-rows .ensures ∙ ap ofRows (four
-    (c .before .before .before .before .before .before .before .move-row .ensures ∙ ap (moved (1 ∷ 1 ∷ 0 ∷ 1 ∷ [])) (c .before .before .before .before .before .before .before .before .take .ensures))
-    (c .before .before .before .before .before .move-row2 .ensures ∙ ap (moved (1 ∷ 0 ∷ 0 ∷ 0 ∷ [])) (c .before .before .before .before .before .before .take2 .ensures))
-    (c .before .before .before .move-row3 .ensures ∙ ap (moved (1 ∷ 0 ∷ 0 ∷ 1 ∷ [])) (c .before .before .before .before .take3 .ensures))
-    (c .before .move-row4 .ensures ∙ ap (moved (0 ∷ 1 ∷ 0 ∷ 0 ∷ [])) (c .before .before .take4 .ensures)))))
+    (c .before .before .before .before .before .before .before .move-row .ensures ∙ ap (movedRow (1 ∷ 1 ∷ 0 ∷ 1 ∷ [])) (c .before .before .before .before .before .before .before .before .take .ensures))
+    (c .before .before .before .before .before .move-row2 .ensures ∙ ap (movedRow (1 ∷ 0 ∷ 0 ∷ 0 ∷ [])) (c .before .before .before .before .before .before .take2 .ensures))
+    (c .before .before .before .move-row3 .ensures ∙ ap (movedRow (1 ∷ 0 ∷ 0 ∷ 1 ∷ [])) (c .before .before .before .before .take3 .ensures))
+    (c .before .move-row4 .ensures ∙ ap (movedRow (0 ∷ 1 ∷ 0 ∷ 0 ∷ [])) (c .before .before .take4 .ensures)))))

@@ -1,6 +1,6 @@
 -- `Schedule::middle` meets its contract: a forward round, the centre, a backward round.
 use borrow.Author.Needs.{needs}
-use mathlib.Core.Path.{_≡_, ap, _∙_}
+use mathlib.Core.Path.{ap, _∙_}
 use Rattle.cells.specs.Cells.{added}
 use Rattle.cells.specs.declared.Cells.{Cells}
 use Rattle.cells.specs.Qarma64.{qarma64}

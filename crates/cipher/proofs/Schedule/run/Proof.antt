@@ -1,14 +1,12 @@
 -- `Schedule::run` meets its contract. Down: the state is what i steps make of the start. Up: what is left to do gives the whole.
 use borrow.Author.Needs.{needs}
-use mathlib.Core.Path.{_≡_, refl, sym, ap, _∙_}
-use Prim.Native.Nat.{ℕ, suc, _≤_, _-_}
+use mathlib.Core.Path.{_≡_, refl}
+use Prim.Native.Nat.{_≤_, _-_}
 use native.Mathlib.Omega.{arith}
-use Rattle.cells.specs.Cells.{added}
-use Rattle.cells.specs.declared.Cells.{Cells}
 use Rattle.cells.specs.Qarma64.{qarma64}
 use Rattle.cells.proofs.Laws.{added-below}
 use Rattle.cells.proofs.Lawful.{lawful64}
-use Rattle.cipher.specs.Engine.{StateBelow, downs, middle, ups, engine}
+use Rattle.cipher.specs.Engine.{StateBelow, downs, middle, ups}
 use Rattle.cipher.specs.declared.State.{State}
 use Rattle.cipher.proofs.Constants.{constant-is, constant-below}
 use Rattle.cipher.proofs.Rounds.{downs-below, middle-below}
