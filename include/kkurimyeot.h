@@ -1,5 +1,5 @@
 /*
- * kkurimyeot.h - the QARMA-64 block engine for C.
+ * kkurimyeot.h - the QARMA-64 block engine for C, and frames sealed with it.
  *
  * This header is the manual. Link with libkkurimyeot.a.
  *
@@ -17,32 +17,48 @@
  *             undoes what it does under the first.
  *   box       The number of a substitution table for cells: 0, 1 or 2.
  *   rounds    The number r of the paper, 3 to 8. The engine runs 2r + 2 rounds.
+ *   message   The bytes that are kept secret: 0 to KK_MESSAGE_MAX.
+ *   label     Bytes that travel openly beside the message and that the tag also
+ *             covers: 0 to KK_LABEL_MAX.
+ *   serial    The number of a frame under its key: 0 to KK_SERIAL_MAX.
+ *   tag       8 bytes that depend on key, serial, label and message. By them a
+ *             changed frame is known.
+ *   seal      To seal a message is to encipher it, block by block, and to make
+ *             its tag.
+ *   sealed    The enciphered blocks and then the tag. KK_SEALED_BYTES() gives
+ *   bytes     their number.
+ *   frame     A serial, a label and sealed bytes.
  *   refusal   The number that says why a call did nothing.
  *
  * The paper is Roberto Avanzi, "The QARMA Block Cipher Family". It chooses
- * box 1 and r = 7.
+ * box 1 and r = 7, and frames are sealed with these.
  *
  *
  * Numbers and lent memory
  *
- * Words, tweaks, blocks, box and rounds are passed as uint64_t. Each of them may
- * have any value: one outside its limits is refused, whatever its upper bits.
+ * Words, tweaks, blocks, box, rounds and serials are passed as uint64_t. Each of
+ * them may have any value: one outside its limits is refused, whatever its upper
+ * bits.
  *
- * An answer made of words is written to memory that the caller lends: a pointer
- * `out` and the number of bytes there, `out_length`. A word is 8 bytes, the most
- * significant first. `out` needs no alignment. All `out_length` bytes must be
- * the caller's to write.
+ * A label or a message is passed as a pointer and the number of bytes there. All
+ * these bytes must be the caller's to read, even if they are too many and the
+ * call is refused. They are never written.
  *
- * A call that succeeds writes the first KK_SCHEDULE_BYTES or KK_BLOCK_BYTES
- * bytes of the lent memory. Every byte past them stays as it was. A call that is
- * refused changes no byte.
+ * An answer is written to memory that the caller lends: a pointer `out` and the
+ * number of bytes there, `out_length`. All `out_length` bytes must be the
+ * caller's to write, and none of them may belong to the label or the message. An
+ * answer made of words has 8 bytes for each, the most significant first.
  *
- * Where `out_length` is 0, `out` may be any pointer, NULL among them: nothing is
- * read or written through it. (Looked up in the code that the compiler is given,
- * and tried in tests/calls.c.)
+ * A call that succeeds writes the first bytes of the lent memory, as many as the
+ * function says. Every byte past them stays as it was. A call that is refused
+ * changes no byte.
  *
- * An answer depends on the parameters alone, and not on earlier calls or on what
- * the lent memory held.
+ * No pointer needs alignment. Where a length is 0, the pointer before it may be
+ * any, NULL among them: nothing is read or written through it. (Looked up in the
+ * code that the compiler is given, and tried in tests/calls.c.)
+ *
+ * An answer depends on the numbers and on the bytes of label and message alone,
+ * and not on earlier calls or on what the lent memory held.
  *
  *
  * The returned number
@@ -61,13 +77,14 @@
  * Not promised
  *
  * Nothing is promised about how long a call takes, nor that it takes equally
- * long for all keys and blocks. Copies of keys and blocks that a call leaves in
- * registers or on the stack are not wiped.
+ * long for all keys, blocks and messages. Copies of keys, blocks and messages
+ * that a call leaves in registers or on the stack are not wiped. No call knows
+ * which serials were used before.
  *
  *
- * Example
+ * Examples
  *
- * At the end of this header. It is compiled when KK_EXAMPLE is defined.
+ * At the end of this header. They are compiled when KK_EXAMPLE is defined.
  */
 
 #ifndef KKURIMYEOT_H
@@ -88,10 +105,24 @@ extern "C" {
 #define KK_ROUNDS_MIN 3
 #define KK_ROUNDS_MAX 8
 
-/* Bytes of a word, of a block and of a schedule. */
+/* Limits of the lengths of message and label, and of the serial. The least of
+   each is 0. */
+#define KK_MESSAGE_MAX 1024
+#define KK_LABEL_MAX 32
+#define KK_SERIAL_MAX ((UINT64_C(1) << 44) - 1)
+
+/* Bytes of a word, of a block, of a schedule and of a tag. */
 #define KK_WORD_BYTES 8
 #define KK_BLOCK_BYTES 8
 #define KK_SCHEDULE_BYTES 32
+#define KK_TAG_BYTES 8
+
+/* The number of sealed bytes for a message of a length up to KK_MESSAGE_MAX: the
+   length rounded up to whole blocks, and the tag. A constant if the length is. */
+#define KK_SEALED_BYTES(message_length)                          \
+    (((size_t)(message_length) + (KK_BLOCK_BYTES - 1))           \
+         / KK_BLOCK_BYTES * KK_BLOCK_BYTES                       \
+     + KK_TAG_BYTES)
 
 /* What kk_refusal() gives. */
 enum kk_refusals {
@@ -190,6 +221,27 @@ uint64_t kk_decipher(uint64_t box, uint64_t rounds,
                      uint64_t tweak, uint64_t block,
                      uint8_t *KK_RESTRICT out, size_t out_length);
 
+/*
+ * The message sealed under the key (w0, k0), a serial and a label: its blocks,
+ * the last one filled if it is not whole, each enciphered in its place, and then
+ * the tag.
+ *
+ * Never seal two messages with one serial under one key. Equal blocks in equal
+ * places would show, and parts of the two frames could be put together.
+ *
+ * Refusals, in this order:
+ *   KK_REFUSED_LENGTH if message_length is above KK_MESSAGE_MAX, or label_length
+ *                     above KK_LABEL_MAX;
+ *   KK_REFUSED_SERIAL if serial is above KK_SERIAL_MAX;
+ *   KK_REFUSED_ROOM   if out_length is below KK_SEALED_BYTES(message_length).
+ * Writes the sealed bytes to the first KK_SEALED_BYTES(message_length) bytes of
+ * out, at least 8 and at most 1032.
+ */
+uint64_t kk_seal(uint64_t w0, uint64_t k0, uint64_t serial,
+                 const uint8_t *KK_RESTRICT label, size_t label_length,
+                 const uint8_t *KK_RESTRICT message, size_t message_length,
+                 uint8_t *KK_RESTRICT out, size_t out_length);
+
 #ifdef KK_EXAMPLE
 /* Enciphers a block and deciphers it again. Gives 1 if the block came back. */
 static inline int kk_example(uint64_t w0, uint64_t k0,
@@ -208,6 +260,25 @@ static inline int kk_example(uint64_t w0, uint64_t k0,
         return 0; /* out still has the enciphered block */
     }
     return kk_word(out) == block;
+}
+
+/* Seals a reading of up to 20 bytes, with the number of its lane as the label,
+   and gives the number of sealed bytes, or 0 if the reading is too long or no
+   serial is left. */
+static inline uint32_t kk_seal_example(uint64_t w0, uint64_t k0,
+                                       uint64_t *next_serial, uint8_t lane,
+                                       const uint8_t *reading, size_t length,
+                                       uint8_t out[KK_SEALED_BYTES(20)])
+{
+    uint64_t answer;
+
+    answer = kk_seal(w0, k0, *next_serial, &lane, 1, reading, length,
+                     out, KK_SEALED_BYTES(20));
+    if (kk_refusal(answer) != KK_NOT_REFUSED) {
+        return 0; /* nothing was written to out */
+    }
+    *next_serial += 1; /* never the same serial again */
+    return kk_count(answer);
 }
 #endif
 

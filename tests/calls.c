@@ -1,6 +1,6 @@
 /*
  * Calls each function of kkurimyeot.h from C, at least once with known values
- * and once to be refused, and runs the header's example.
+ * and once to be refused, and runs the header's examples.
  */
 
 #define KK_EXAMPLE
@@ -19,7 +19,32 @@
 #define K0 UINT64_C(0xEC2802D4E0A488E9)
 #define CIPHERTEXT UINT64_C(0xEDF67FF370A483F2)
 
-/* The memory lent to each call: more than any answer needs. */
+/*
+ * Frames under the key (W0, K0). The sealed bytes are those that the second
+ * program gives (tests/second/frame.rs).
+ */
+#define SERIAL 1
+#define LABEL "lane 4"
+#define MESSAGE "touch 27.41"
+static const uint8_t sealed[] = {
+    0x70, 0x0D, 0x9A, 0xE6, 0x5D, 0xA4, 0xFF, 0x8B,
+    0x3E, 0x8B, 0xEB, 0xA1, 0x48, 0x7C, 0xBD, 0x7F,
+    0x25, 0x64, 0x57, 0xA8, 0x8E, 0x4E, 0x54, 0xC3,
+};
+/* Empty label and message: the tag alone. */
+static const uint8_t sealed_empty[] = {
+    0xF7, 0x29, 0xBD, 0xC2, 0x10, 0x37, 0xF8, 0xE9,
+};
+/* Label 04, message "27.41", the greatest serial. */
+static const uint8_t sealed_last[] = {
+    0x78, 0x8A, 0x2C, 0x19, 0xFA, 0x79, 0x5E, 0x21,
+    0xD4, 0x58, 0x44, 0xCE, 0x00, 0xA9, 0xD8, 0x5F,
+};
+
+/* A message and a label may be the first bytes of this: one more than allowed. */
+static const uint8_t long_bytes[KK_MESSAGE_MAX + 1];
+
+/* The memory lent to each call: more than any answer here needs. */
 static uint8_t out[KK_SCHEDULE_BYTES + 8];
 
 static unsigned checks;
@@ -73,12 +98,78 @@ static void wrote_schedule(uint64_t answer, uint64_t w0, uint64_t w1,
     check(untouched_from(KK_SCHEDULE_BYTES), what);
 }
 
+static void wrote_bytes(uint64_t answer, const uint8_t *bytes, size_t length,
+                        const char *what)
+{
+    check(kk_refusal(answer) == KK_NOT_REFUSED, what);
+    check(kk_count(answer) == length, what);
+    check(answer == length, what);
+    check(memcmp(out, bytes, length) == 0, what);
+    check(untouched_from(length), what);
+}
+
 static void refused(uint64_t answer, unsigned refusal, const char *what)
 {
     check(kk_refusal(answer) == refusal, what);
     check(kk_count(answer) == 0, what);
     check(answer == (uint64_t)refusal << 56, what);
     check(untouched_from(0), what);
+}
+
+/* kk_seal() under the key above. */
+static uint64_t seal(uint64_t serial, const void *label, size_t label_length,
+                     const void *message, size_t message_length,
+                     uint8_t *lent, size_t length)
+{
+    return kk_seal(W0, K0, serial, label, label_length, message, message_length, lent, length);
+}
+
+static void seals(void)
+{
+    const size_t label = strlen(LABEL), message = strlen(MESSAGE);
+    uint64_t answer;
+
+    check(KK_SEALED_BYTES(0) == 8 && KK_SEALED_BYTES(1) == 16, "KK_SEALED_BYTES, short");
+    check(KK_SEALED_BYTES(8) == 16 && KK_SEALED_BYTES(9) == 24, "KK_SEALED_BYTES, one block");
+    check(KK_SEALED_BYTES(KK_MESSAGE_MAX) == 1032, "KK_SEALED_BYTES, longest");
+    check(KK_SEALED_BYTES(message) == sizeof sealed, "KK_SEALED_BYTES, known");
+
+    answer = seal(SERIAL, LABEL, label, MESSAGE, message, lend(), sizeof out);
+    wrote_bytes(answer, sealed, sizeof sealed, "kk_seal");
+    answer = seal(SERIAL, LABEL, label, MESSAGE, message, lend(), sizeof sealed);
+    wrote_bytes(answer, sealed, sizeof sealed, "kk_seal, exact room");
+
+    answer = seal(KK_SERIAL_MAX + 1, LABEL, label, long_bytes, KK_MESSAGE_MAX + 1, lend(), 0);
+    refused(answer, KK_REFUSED_LENGTH, "kk_seal, long message, bad serial and short");
+    answer = seal(SERIAL, long_bytes, KK_LABEL_MAX + 1, MESSAGE, message, lend(), sizeof out);
+    refused(answer, KK_REFUSED_LENGTH, "kk_seal, long label");
+    answer = seal(KK_SERIAL_MAX + 1, LABEL, label, MESSAGE, message, lend(), 0);
+    refused(answer, KK_REFUSED_SERIAL, "kk_seal, bad serial and short");
+    answer = seal(SERIAL, LABEL, label, MESSAGE, message, lend(), sizeof sealed - 1);
+    refused(answer, KK_REFUSED_ROOM, "kk_seal, short");
+
+    /* No bytes at all, by null pointers. */
+    answer = seal(SERIAL, NULL, 0, NULL, 0, lend(), sizeof out);
+    wrote_bytes(answer, sealed_empty, sizeof sealed_empty, "kk_seal, null label and message");
+    lend();
+    answer = seal(SERIAL, LABEL, label, MESSAGE, message, NULL, 0);
+    refused(answer, KK_REFUSED_ROOM, "kk_seal, null out");
+    answer = seal(SERIAL, NULL, 0, NULL, 0, NULL, 0);
+    refused(answer, KK_REFUSED_ROOM, "kk_seal, all null");
+}
+
+/* The header's example of sealing: the last serial is used once and no more. */
+static void seals_by_example(void)
+{
+    static const uint8_t reading[] = { '2', '7', '.', '4', '1' };
+    uint64_t next = KK_SERIAL_MAX;
+    uint32_t length;
+
+    length = kk_seal_example(W0, K0, &next, 4, reading, sizeof reading, lend());
+    wrote_bytes(length, sealed_last, sizeof sealed_last, "the header's example of sealing");
+    lend();
+    check(kk_seal_example(W0, K0, &next, 4, reading, sizeof reading, out) == 0, "no serial left");
+    check(next == KK_SERIAL_MAX + 1 && untouched_from(0), "no serial left, nothing changed");
 }
 
 int main(void)
@@ -123,7 +214,10 @@ int main(void)
     refused(kk_encipher(1, 7, W0, K0, TWEAK, PLAIN, NULL, 0), KK_REFUSED_ROOM, "kk_encipher, null");
     refused(kk_decipher(1, 7, W0, K0, TWEAK, PLAIN, NULL, 0), KK_REFUSED_ROOM, "kk_decipher, null");
 
+    seals();
+
     check(kk_example(W0, K0, TWEAK, PLAIN), "the header's example");
+    seals_by_example();
 
     printf("c caller: %u checks passed\n", checks);
     return 0;

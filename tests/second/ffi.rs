@@ -38,11 +38,22 @@ mod c {
             out: *mut u8,
             out_length: usize,
         ) -> u64;
+        pub fn kk_seal(
+            w0: u64,
+            k0: u64,
+            serial: u64,
+            label: *const u8,
+            label_length: usize,
+            message: *const u8,
+            message_length: usize,
+            out: *mut u8,
+            out_length: usize,
+        ) -> u64;
     }
 }
 
-// SAFETY, for each call below: the pointer and the length are those of one mutable slice, and the
-// library writes inside the slice it is lent and nowhere else.
+// SAFETY, for each call below: each pointer and the length after it are those of one slice, and the
+// library writes inside the mutable slice it is lent and nowhere else.
 
 pub fn schedule(key: Key, out: &mut [u8]) -> u64 {
     unsafe { c::kk_schedule(key.w0, key.k0, out.as_mut_ptr(), out.len()) }
@@ -98,6 +109,25 @@ pub fn decipher(
     unsafe {
         c::kk_decipher(
             box_number, rounds, key.w0, key.k0, tweak, block, place, room,
+        )
+    }
+}
+
+pub fn seal(key: Key, serial: u64, label: &[u8], message: &[u8], out: &mut [u8]) -> u64 {
+    let (label, label_length) = (label.as_ptr(), label.len());
+    let (message, message_length) = (message.as_ptr(), message.len());
+    let (place, room) = (out.as_mut_ptr(), out.len());
+    unsafe {
+        c::kk_seal(
+            key.w0,
+            key.k0,
+            serial,
+            label,
+            label_length,
+            message,
+            message_length,
+            place,
+            room,
         )
     }
 }

@@ -1,10 +1,11 @@
-//! The second program: QARMA-64 written from the paper alone, and what is needed to compare the
-//! library's C functions with it.
+//! The second program: QARMA-64 written from the paper alone, frames from document 01 alone, and what
+//! is needed to compare the library's C functions with them.
 
 use std::mem::ManuallyDrop;
 use std::ptr;
 
 pub mod ffi;
+pub mod frame;
 pub mod harness;
 pub mod qarma;
 pub mod rng;

@@ -2,12 +2,14 @@
 use mathlib.Core.Path.{_≡_, refl}
 use mathlib.Core.List.{List, map}
 use Prim.Native.Nat.{ℕ}
+use Rattle.words.specs.Cases.{ifLe}
 use Rattle.cells.specs.Lists.{upto}
 use Rattle.cells.specs.Cells.{cut, joined, picked, onSeven, added, mixedBy}
 use Rattle.cipher.specs.Engine.{turned}
 use Rattle.cipher.specs.Words.{wordsOf}
+use Rattle.frame.specs.Blocks.{filled}
 use Rattle.kkurimyeot.specs.Examples.{table}
 
 pub examples : map (λ (row : List ℕ × List ℕ). row .0) table ≡ map (λ (row : List ℕ × List ℕ). row .1) table
-unfolding table upto cut joined picked onSeven added mixedBy turned wordsOf
+unfolding table upto cut joined picked onSeven added mixedBy turned wordsOf filled ifLe
 examples = refl

@@ -17,3 +17,7 @@ encipher-decided κs a x y v w p q = ((λ i. (p ∙ sym q) i .0), λ i. (tt, (tt
 
 pub decipher-decided : Decided proofs.kk_decipher.Kinds.ps proofs.kk_decipher.Kinds.r proofs.kk_decipher.Reads.Post
 decipher-decided κs a x y v w p q = ((λ i. (p ∙ sym q) i .0), λ i. (tt, (tt, (tt, (tt, (tt, (tt, ((p ∙ sym q) i .1, tt))))))))
+
+pub seal-decided : Decided proofs.kk_seal.Kinds.ps proofs.kk_seal.Kinds.r proofs.kk_seal.Reads.Post
+seal-decided κs a x y v w p q =
+    ((λ i. (p ∙ sym q) i .0), λ i. (tt, (tt, (tt, (tt, (tt, ((p ∙ sym q) i .1, tt)))))))

@@ -5,6 +5,7 @@ use Rattle.cells.specs.Cells.{cut, joined, shuffled, mixedColumn, stepped}
 use Rattle.cells.specs.Qarma64.{qarma64, entries, bitStepped}
 use Rattle.cipher.specs.Engine.{outer}
 use Rattle.cipher.specs.Words.{turnedWords}
+use Rattle.frame.specs.Blocks.{block, tweak}
 use Rattle.kkurimyeot.specs.Calls.{fourWords}
 
 -- the tweak step on a word
@@ -36,4 +37,8 @@ table =
     ∷ (turnedFour 0 0 0 0, 0 ∷ 0 ∷ 0xC0AC29B7C97C50DD ∷ 0 ∷ [])
     -- P12
     ∷ (turnedFour 5 9 0xC0AC29B7C97C50DD 0x1000000000000000, 9 ∷ 5 ∷ 0 ∷ 0x0000200040002000 ∷ [])
+    -- P13, filling the one byte FF
+    ∷ (block (0xFF ∷ []) 0 ∷ [], 0xFF80000000000000 ∷ [])
+    -- P14, purpose 4, serial 1, index 0
+    ∷ (tweak 4 1 0 ∷ [], 0x4000000000010000 ∷ [])
     ∷ []

@@ -9,6 +9,7 @@ ghost use Prim.Native.Nat.{_*_, _≤_};
 ghost use lib.ListN.{length, getD, drop};
 ghost use Rattle.words.specs.Digits.{laid};
 ghost use Rattle.cipher.specs.Words.{keyWords, turnedWords, engineCall, encipherCall, decipherCall};
+ghost use Rattle.frame.specs.Frames.{sealing};
 ghost use Rattle.kkurimyeot.specs.Calls.{given, blockGiven, fourWords, returning};
 
 // Writes each word into its own place of out, 8 bytes a word.
@@ -125,4 +126,19 @@ pub extern "C" fn kk_decipher(
     ensures { λ r. ⌜ (r, now (out .exit)) ≡ returning (blockGiven (decipherCall number rounds w0 k0 tweak block) (now (out .entry))) ⌝ }
 {
     give_block(cipher::decipher(number, rounds, w0, k0, tweak, block), out)
+}
+
+// The sealed bytes of a message under a key, a serial and a label.
+#[no_mangle]
+pub extern "C" fn kk_seal(
+    w0: u64,
+    k0: u64,
+    serial: u64,
+    label: &[u8],
+    message: &[u8],
+    out: &mut [u8],
+) -> u64
+    ensures { λ r. ⌜ (r, now (out .exit)) ≡ returning (sealing w0 k0 serial (now (label .entry)) (now (message .entry)) (now (out .entry))) ⌝ }
+{
+    refusals::returned(frame::seal(w0, k0, serial, label, message, out))
 }

@@ -43,7 +43,7 @@ pub length-digits : (m n w : ℕ) → length (digits m n w) ≡ n
 length-digits m zero w = refl
 length-digits m (suc n) w = rw (length-append, length-digits m n (w / 2 ^ m), add-one)
 
-digits-append : {m : ℕ} {xs ys : List ℕ} → Digits m xs → Digits m ys → Digits m (xs ++ ys)
+pub digits-append : {m : ℕ} {xs ys : List ℕ} → Digits m xs → Digits m ys → Digits m (xs ++ ys)
 digits-append none k = k
 digits-append (more hd h) k = more hd (digits-append h k)
 
@@ -71,7 +71,7 @@ pub word-fits : {m : ℕ} {ds : List ℕ} → Digits m ds → m * length ds ≤ 
 word-fits h k = lt-of-lt-of-le (word-lt h) (pow-mono k)
 
 -- a word is at least what its first digits make
-grows : (m a : ℕ) (ds : List ℕ) → a ≤ wordFrom m a ds
+pub grows : (m a : ℕ) (ds : List ℕ) → a ≤ wordFrom m a ds
 grows m a [] = le-refl a
 grows m a (d ∷ ds) = le-trans (le-trans (le-mul-of-pos-right a (pow-pos m)) (le-add-right (a * 2 ^ m) d)) (grows m (a * 2 ^ m + d) ds)
 
@@ -105,7 +105,7 @@ length-laid zero f = refl
 length-laid (suc n) f = rw (length-append, length-laid n f, length-digits) (omega arith)
 
 -- a part in the middle is replaced: b stands before it, and d is what was there
-mid-turn : (b d ys : List ℕ) (a k e : ℕ) → length b ≡ a → a + k ≡ e → putMid a k (b ++ drop a d) ys ≡ (b ++ ys) ++ drop e d
+pub mid-turn : (b d ys : List ℕ) (a k e : ℕ) → length b ≡ a → a + k ≡ e → putMid a k (b ++ drop a d) ys ≡ (b ++ ys) ++ drop e d
 mid-turn b d ys a k e h p = rw (take-at b (drop a d) a, drop-at b (drop a d) a, drop-drop, p, append-assoc)
 
 -- word i goes to its place

@@ -1,11 +1,11 @@
 -- `put` meets its contract. The invariant: i words are written, and the rest is as it was.
 use borrow.Author.Needs.{needs}
-use mathlib.Core.Path.{_≡_, refl, _∙_}
+use mathlib.Core.Path.{_≡_, refl, ap, _∙_}
 use mathlib.Core.List.{_++_}
-use Prim.Native.Nat.{_≤_, _-_, _*_, _+_}
+use Prim.Native.Nat.{ℕ, _≤_, _-_, _*_, _+_}
 use native.Mathlib.Omega.{arith}
 use lib.ListN.{length, getD, take, drop, length-take, length-drop}
-use Rattle.words.specs.Digits.{laid}
+use Rattle.words.specs.Digits.{digits, laid}
 use Rattle.words.proofs.Laws.{laid-turn}
 use Rattle.kkurimyeot.proofs.put.Statement.{statement}
 use Rattle.kkurimyeot.proofs.put.Tie as tie
@@ -40,7 +40,7 @@ put-spec =
     let out = loop .loop .out in
     let inv = loop .loop .inv in
     let eight : length (take (i * 8 + 8 - i * 8) (drop (i * 8) out)) ≡ 8 = simp (length-take, length-drop) (omega arith) in
-    (omega arith, c .before .out .given .1 ∙ inv .1, laid-turn (λ k. getD (args .list .now) k 0) (args .out .now) out (c .before .before .write .last .0) i (inv .2) (cc)))
+    (omega arith, c .before .out .given .1 ∙ inv .1, laid-turn (λ k. getD (args .list .now) k 0) (args .out .now) out (c .before .before .write .last .0) i (inv .2) (c .before .before .write .ensures ∙ ap (λ (k : ℕ). digits 8 k (getD (args .list .now) i 0)) eight)))
     (λ c. c .before .loop .inv .1)
     (λ c.
     let e : c .before .loop .i ≡ length (c .before .before .before .before .args .list .now) = omega arith in

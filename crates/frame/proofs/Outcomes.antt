@@ -1,0 +1,7 @@
+-- One outcome: each public contract of `frame` leaves one answer and one content of lent memory.
+use mathlib.Core.Path.{sym, _∙_}
+use Rattle.words.proofs.Decided.{Decided}
+use Rattle.frame.proofs
+
+pub seal-decided : Decided proofs.seal.Kinds.ps proofs.seal.Kinds.r proofs.seal.Reads.Post
+seal-decided κs a x y v w p q = ((λ i. (p ∙ sym q) i .0), λ i. (tt, (tt, (tt, (tt, (tt, ((p ∙ sym q) i .1, tt)))))))

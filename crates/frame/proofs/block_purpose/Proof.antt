@@ -1,0 +1,18 @@
+-- `block_purpose` meets its contract: the test gives the case.
+use borrow.Author.Needs.{needs}
+use native.Mathlib.Omega.{arith}
+use Rattle.words.proofs.Laws.{le-case, gt-case}
+use Rattle.frame.specs.Blocks.{purpose}
+use Rattle.frame.proofs.block_purpose.Statement.{statement}
+use Rattle.frame.proofs.block_purpose.Tie as tie
+
+pub block-purpose-spec : {M : Type 1} → statement M
+unfolding purpose
+block-purpose-spec =
+    tie.close
+    (tie.spec
+    (λ c. search needs)
+    (λ c. search needs)
+    (λ c. (le-case _ _ _ _ (omega arith), omega arith))
+    (λ c. search needs)
+    (λ c. (gt-case _ _ _ _ (omega arith), omega arith)))

@@ -1,0 +1,40 @@
+-- `seal` meets its contract: each test gives its case.
+use borrow.Author.Needs.{needs}
+use mathlib.Core.Path.{ap, _∙_}
+use mathlib.Core.List.{_++_}
+use native.Mathlib.Omega.{arith}
+use lib.ListN.{length, drop}
+use Rattle.words.proofs.Laws.{le-case, gt-case}
+use Rattle.refusals.specs.declared.Answer.the-variants.{Wrote}
+use Rattle.cipher.specs.declared.Schedule.{Schedule}
+use Rattle.cipher.proofs.Demands.{schedule-below}
+use Rattle.frame.specs.Frames.{sealedSize, sealedBytes, sealing}
+use Rattle.frame.proofs.seal.Statement.{statement}
+use Rattle.frame.proofs.seal.Tie as tie
+
+pub seal-spec : {M : Type 1} → statement M
+unfolding sealing
+seal-spec =
+    tie.close
+    (tie.spec
+    (λ c. gt-case _ _ _ _ (omega arith))
+    (λ c. gt-case _ _ _ _ (omega arith) ∙ le-case _ _ _ _ (omega arith))
+    (λ c. gt-case _ _ _ _ (omega arith) ∙ le-case _ _ _ _ (omega arith) ∙ le-case _ _ _ _ (omega arith))
+    (λ c. search needs)
+    (λ c. search needs)
+    (λ c. search needs)
+    (λ c. gt-case _ _ _ _ (omega arith) ∙ le-case _ _ _ _ (omega arith) ∙ le-case _ _ _ _ (omega arith) ∙ le-case _ _ _ _ (omega arith))
+    (λ c κs. search needs)
+    (λ c κs. ((rw (c .before .of-key .ensures) (schedule-below 4 _ _ _ _), omega arith), (omega arith, (omega arith, omega arith))))
+    (λ c. search needs)
+    (λ c. search needs)
+    (λ c.
+    let args = c .before .before .before .before .before .before .before .before .before .before .before .before .args in
+    let size = sealedSize (length (args .message .now)) in
+    let made = c .before .before .put-sealed .ensures
+    ∙ ap (λ (s : Schedule). sealedBytes s (args .serial) (args .label .now) (args .message .now) ++ drop size (args .out .now)) (c .before .before .before .before .of-key .ensures) in
+    ap (λ l. (Wrote size, l)) made
+    ∙ le-case _ _ _ _ (omega arith)
+    ∙ le-case _ _ _ _ (omega arith)
+    ∙ le-case _ _ _ _ (omega arith)
+    ∙ le-case _ _ _ _ (omega arith)))

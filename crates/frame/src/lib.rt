@@ -1,0 +1,172 @@
+// Frames: sealing and opening, box 1 and r = 7.
+use cells::Cells;
+use cipher::Schedule;
+use refusals::Answer;
+use refusals::Refusal;
+ghost use mathlib.Core.Path.{_≡_};
+ghost use Prim.Native.Nat.{_+_, _*_, _^_, _<_, _≤_};
+ghost use mathlib.Core.List.{_++_};
+ghost use lib.ListN.{length, drop};
+ghost use Rattle.words.specs.Digits.{word, laid};
+ghost use Rattle.cells.specs.Lists.{sum};
+ghost use Rattle.cipher.specs.Engine.{ScheduleBelow};
+ghost use Rattle.frame.specs.Blocks.{blocks, filled, block, tweak, purpose, tagPurpose};
+ghost use Rattle.frame.specs.Frames.{enciphered, sealedBlock, labelSum, tagOf, sealedSize, sealedBytes, sealing};
+
+// A part of 1 to 8 bytes as a word, filled if it is short.
+fn fill(part: &[u8]) -> u64
+    requires { ⌜ (1 ≤ length (now part)) × (length (now part) ≤ 8) ⌝ }
+    ensures { λ r. ⌜ r ≡ word 8 (filled (now (part .entry))) ⌝ }
+{
+    let n = part.len();
+    let x = words::read(part, 8);
+    if n == 8 {
+        return x;
+    }
+    ((x << 8) + 0x80) << (8 * (7 - n))
+}
+
+// Block i of some bytes as a word.
+fn block_at(s: &[u8], i: usize) -> u64
+    requires { ⌜ (length (now s) ≤ 1024) × (i < blocks (length (now s))) ⌝ }
+    ensures { λ r. ⌜ r ≡ block (now (s .entry)) i ⌝ }
+{
+    let at = i * 8;
+    if s.len() < at + 8 {
+        return fill(&s[at..]);
+    }
+    fill(&s[at..at + 8])
+}
+
+// The purpose of block i of n bytes, from the purpose of a whole one.
+fn block_purpose(whole: u64, n: usize, i: usize) -> u64
+    requires { ⌜ (whole < 4) × (i < 128) ⌝ }
+    ensures { λ r. ⌜ (r ≡ purpose whole n i) × (r < 5) ⌝ }
+{
+    if i * 8 + 8 <= n {
+        return whole;
+    }
+    whole + 1
+}
+
+// The purpose of the tag of a message of n bytes.
+fn tag_purpose(n: usize) -> u64
+    ensures { λ r. ⌜ (r ≡ tagPurpose n) × (r < 6) ⌝ }
+{
+    if n % 8 == 0 {
+        return 4;
+    }
+    5
+}
+
+// A tweak: purpose, serial, index.
+fn tweak_of(what: u64, serial: u64, index: u64) -> u64
+    requires { ⌜ (what < 16) × ((serial < 2 ^ 44) × (index < 2 ^ 16)) ⌝ }
+    ensures { λ r. ⌜ r ≡ tweak what serial index ⌝ }
+{
+    what * 0x1000000000000000 + serial * 0x10000 + index
+}
+
+// A block enciphered with box 1 and r = 7.
+fn encipher(s: Schedule, t: u64, p: u64) -> u64
+    requires { ⌜ ScheduleBelow 4 s ⌝ }
+    ensures { λ r. ⌜ r ≡ enciphered s t p ⌝ }
+{
+    s.run(1, 7, Cells::of(t), Cells::of(p)).word()
+}
+
+// Block i of some bytes enciphered, by the purpose of a whole one.
+fn seal_block(s: Schedule, whole: u64, serial: u64, bytes: &[u8], i: usize) -> u64
+    requires { ⌜ (ScheduleBelow 4 s × (whole < 4)) × ((serial < 2 ^ 44) × ((length (now bytes) ≤ 1024) × (i < blocks (length (now bytes))))) ⌝ }
+    ensures { λ r. ⌜ r ≡ sealedBlock s whole serial (now (bytes .entry)) i ⌝ }
+{
+    let t = tweak_of(block_purpose(whole, bytes.len(), i), serial, i as u64);
+    encipher(s, t, block_at(bytes, i))
+}
+
+// The sum of the blocks of some bytes.
+fn sum_blocks(bytes: &[u8]) -> u64
+    requires { ⌜ length (now bytes) ≤ 1024 ⌝ }
+    ensures { λ r. ⌜ r ≡ sum (blocks (length (now (bytes .entry)))) (block (now (bytes .entry))) ⌝ }
+{
+    let n = (bytes.len() + 7) / 8;
+    let mut total = 0;
+    let mut i = 0;
+    while i < n {
+        total ^= block_at(bytes, i);
+        i += 1;
+    }
+    total
+}
+
+// The sum of the enciphered blocks of a label.
+fn sum_label(s: Schedule, serial: u64, label: &[u8]) -> u64
+    requires { ⌜ ScheduleBelow 4 s × ((serial < 2 ^ 44) × (length (now label) ≤ 1024)) ⌝ }
+    ensures { λ r. ⌜ r ≡ labelSum s serial (now (label .entry)) ⌝ }
+{
+    let n = (label.len() + 7) / 8;
+    let mut total = 0;
+    let mut i = 0;
+    while i < n {
+        total ^= seal_block(s, 2, serial, label, i);
+        i += 1;
+    }
+    total
+}
+
+// The tag of a message of n bytes, from the sum of its blocks.
+fn tag(s: Schedule, serial: u64, label: &[u8], n: usize, total: u64) -> u64
+    requires { ⌜ ScheduleBelow 4 s × ((serial < 2 ^ 44) × ((length (now label) ≤ 1024) × (n ≤ 1024))) ⌝ }
+    ensures { λ r. ⌜ r ≡ tagOf s serial (now (label .entry)) n total ⌝ }
+{
+    let index = (n + 7) / 8;
+    let t = tweak_of(tag_purpose(n), serial, index as u64);
+    encipher(s, t, total) ^ sum_label(s, serial, label)
+}
+
+// Writes each enciphered block of a message into its own place of out.
+fn put_blocks(s: Schedule, serial: u64, message: &[u8], out: &mut [u8])
+    requires { ⌜ (ScheduleBelow 4 s × (serial < 2 ^ 44)) × ((length (now message) ≤ 1024) × (blocks (length (now message)) * 8 ≤ length (now out))) ⌝ }
+    ensures { λ _. ⌜ now (out .exit) ≡ laid (blocks (length (now (message .entry)))) (sealedBlock s 0 serial (now (message .entry))) ++ drop (blocks (length (now (message .entry))) * 8) (now (out .entry)) ⌝ }
+{
+    let n = (message.len() + 7) / 8;
+    let mut i = 0;
+    while i < n {
+        let at = i * 8;
+        let w = seal_block(s, 0, serial, message, i);
+        words::write(&mut out[at..at + 8], 8, w);
+        i += 1;
+    }
+}
+
+// Writes the sealed bytes of a message into the first bytes of out.
+fn put_sealed(s: Schedule, serial: u64, label: &[u8], message: &[u8], out: &mut [u8])
+    requires { ⌜ (ScheduleBelow 4 s × (serial < 2 ^ 44)) × ((length (now label) ≤ 1024) × ((length (now message) ≤ 1024) × (sealedSize (length (now message)) ≤ length (now out)))) ⌝ }
+    ensures { λ _. ⌜ now (out .exit) ≡ sealedBytes s serial (now (label .entry)) (now (message .entry)) ++ drop (sealedSize (length (now (message .entry)))) (now (out .entry)) ⌝ }
+{
+    put_blocks(s, serial, message, out);
+    let behind = (message.len() + 7) / 8 * 8;
+    let w = tag(s, serial, label, message.len(), sum_blocks(message));
+    words::write(&mut out[behind..behind + 8], 8, w);
+}
+
+// Seals a message under a key, a serial and a label.
+pub fn seal(w0: u64, k0: u64, serial: u64, label: &[u8], message: &[u8], out: &mut [u8]) -> Answer
+    ensures { λ r. ⌜ (r, now (out .exit)) ≡ sealing w0 k0 serial (now (label .entry)) (now (message .entry)) (now (out .entry)) ⌝ }
+{
+    if 1024 < message.len() {
+        return Answer::Refused(Refusal::Length);
+    }
+    if 32 < label.len() {
+        return Answer::Refused(Refusal::Length);
+    }
+    if 0xFFFFFFFFFFF < serial {
+        return Answer::Refused(Refusal::Serial);
+    }
+    let size = (message.len() + 7) / 8 * 8 + 8;
+    if out.len() < size {
+        return Answer::Refused(Refusal::Room);
+    }
+    put_sealed(Schedule::of_key(w0, k0), serial, label, message, out);
+    Answer::Wrote { count: size as u32 }
+}
