@@ -1,15 +1,17 @@
 //! The library through C beside the second program, one thread, box 1, r = 7.
 //!
-//!     bench                             times both in one run
-//!     bench CALL library|second BLOCKS  works on so many blocks, for its instructions to be counted
+//!     bench                                 times both in one run
+//!     bench CALL library|second MADE COUNT  makes inputs and works on so many of them, for its
+//!                                           instructions to be counted
 //!
 //! Both are built for release: the second program at rustc's opt-level 3, the library as
-//! `rt staticlib` builds it. By both alike, a block is taken from a slice of words and its answer
-//! written as 8 bytes into its own place of an output slice. The output is zeros when it is made
-//! and is not cleared between passes: each pass writes every byte of it. All memory is warm. The
-//! tweak is the block's index.
+//! `rt staticlib` builds it. By both alike, an input is taken from a slice (a word for a block, bytes
+//! for a frame) and its answer written into its own place of an output slice, a block's as 8 bytes.
+//! The output is zeros when it is made and is not cleared between passes: each pass writes every byte
+//! of it. All memory is warm. An input's index is the tweak of a block and the serial of a frame.
 
 use second::ffi;
+use second::frame;
 use second::opaque;
 use second::qarma::{self, Key, Schedule};
 use second::rng::Rng;
@@ -22,102 +24,183 @@ const REPETITIONS: usize = 200;
 /// Blocks in one timing: a shorter run is passed over until it comes to as many.
 const BLOCKS: usize = 4096;
 
+/// Frames in one timing: those of as many blocks, labels and tags not counted.
+const FRAMES: usize = BLOCKS * 8 / MESSAGE;
+
+/// Bytes of a frame's message, of its label and of its sealed bytes.
+const MESSAGE: usize = 1_024;
+const LABEL: usize = 32;
+const SEALED: usize = MESSAGE + 8;
+
 /// What is known at run time only. The settings are box and rounds.
 struct Given {
     settings: (usize, usize),
     key: Key,
     schedule: Schedule,
+    label: [u8; LABEL],
 }
 
-/// Works on one block, given its tweak, the block and the place of its answer.
-type One = fn(&Given, u64, u64, &mut [u8]);
+/// Works on one input, given its index, the input and the place of its answer.
+type One<I> = fn(&Given, u64, &I, &mut [u8]);
 
-struct Call {
+/// A call on an input of type I, the bytes of its answer, and its inputs.
+struct Call<I> {
     name: &'static str,
-    library: One,
-    second: One,
+    answer: usize,
+    library: One<I>,
+    second: One<I>,
+    inputs: fn(&Given, usize) -> Vec<I>,
 }
 
-const CALLS: [Call; 2] = [
-    Call {
-        name: "kk_encipher",
-        library: |given, tweak, block, place| {
-            let (b, r) = given.settings;
-            ffi::encipher(b as u64, r as u64, given.key, tweak, block, place);
-        },
-        second: |given, tweak, block, place| {
-            let (b, r) = given.settings;
-            put(qarma::encipher(b, r, given.key, tweak, block), place);
-        },
+const ENCIPHER: Call<u64> = Call {
+    name: "kk_encipher",
+    answer: 8,
+    library: |given, tweak, &block, place| {
+        let (b, r) = given.settings;
+        ffi::encipher(b as u64, r as u64, given.key, tweak, block, place);
     },
-    Call {
-        name: "kk_engine",
-        library: |given, tweak, block, place| {
-            let (b, r) = given.settings;
-            ffi::engine(b as u64, r as u64, given.schedule, tweak, block, place);
-        },
-        second: |given, tweak, block, place| {
-            let (b, r) = given.settings;
-            put(qarma::engine(b, r, given.schedule, tweak, block), place);
-        },
+    second: |given, tweak, &block, place| {
+        let (b, r) = given.settings;
+        put(qarma::encipher(b, r, given.key, tweak, block), place);
     },
-];
+    inputs: blocks,
+};
+
+const ENGINE: Call<u64> = Call {
+    name: "kk_engine",
+    answer: 8,
+    library: |given, tweak, &block, place| {
+        let (b, r) = given.settings;
+        ffi::engine(b as u64, r as u64, given.schedule, tweak, block, place);
+    },
+    second: |given, tweak, &block, place| {
+        let (b, r) = given.settings;
+        put(qarma::engine(b, r, given.schedule, tweak, block), place);
+    },
+    inputs: blocks,
+};
+
+const SEAL: Call<[u8; MESSAGE]> = Call {
+    name: "kk_seal",
+    answer: SEALED,
+    library: |given, serial, message, place| {
+        let answer = ffi::seal(given.key, serial, &given.label, message, place);
+        assert_eq!(answer, SEALED as u64);
+    },
+    second: |given, serial, message, place| {
+        let answer = frame::seal(given.key, serial, &given.label, message, place);
+        assert_eq!(answer, Ok(SEALED));
+    },
+    inputs: messages,
+};
+
+const OPEN: Call<[u8; SEALED]> = Call {
+    name: "kk_open",
+    answer: MESSAGE,
+    library: |given, serial, sealed, place| {
+        let length = MESSAGE as u64;
+        let answer = ffi::open(given.key, serial, length, &given.label, sealed, place);
+        assert_eq!(answer, length);
+    },
+    second: |given, serial, sealed, place| {
+        let length = MESSAGE as u64;
+        let answer = frame::open(given.key, serial, length, &given.label, sealed, place);
+        assert_eq!(answer, Ok(MESSAGE));
+    },
+    inputs: sealed,
+};
 
 fn put(answer: u64, place: &mut [u8]) {
     place.copy_from_slice(&answer.to_be_bytes());
 }
 
-/// Works on each block once.
-fn pass(given: &Given, one: One, blocks: &[u64], out: &mut [u8]) {
-    let places = opaque(out).chunks_exact_mut(8);
-    for (index, (&block, place)) in blocks.iter().zip(places).enumerate() {
-        one(given, index as u64, block, place);
-    }
-}
-
-/// Nanoseconds a block.
-fn time(given: &Given, one: One, blocks: &[u64], out: &mut [u8]) -> f64 {
-    let passes = BLOCKS / blocks.len();
-    let start = Instant::now();
-    for _ in 0..passes {
-        pass(given, one, blocks, out);
-    }
-    start.elapsed().as_nanos() as f64 / (passes * blocks.len()) as f64
-}
-
-fn random_blocks(count: usize) -> Vec<u64> {
+/// Random blocks.
+fn blocks(_: &Given, count: usize) -> Vec<u64> {
     let mut rng = Rng::new(7);
     (0..count).map(|_| rng.word()).collect()
 }
 
-/// Times both on a run of `count` blocks and prints their best and median times.
-fn row(given: &Given, call: &Call, count: usize) {
-    let blocks = random_blocks(count);
-    let mut library_out = vec![0; 8 * count];
-    let mut second_out = vec![0; 8 * count];
-    let mut library_times = Vec::new();
-    let mut second_times = Vec::new();
-    let mut library = || library_times.push(time(given, call.library, &blocks, &mut library_out));
-    let mut second = || second_times.push(time(given, call.second, &blocks, &mut second_out));
-    for _ in 0..REPETITIONS / 2 {
-        library();
-        second();
-        second();
-        library();
-    }
-    assert_eq!(
-        library_out, second_out,
-        "library and second program disagree"
-    );
+/// Random messages.
+fn messages(_: &Given, count: usize) -> Vec<[u8; MESSAGE]> {
+    let mut rng = Rng::new(8);
+    let message = |_| rng.bytes(MESSAGE).try_into().expect("as many bytes");
+    (0..count).map(message).collect()
+}
 
-    library_times.sort_by(f64::total_cmp);
-    second_times.sort_by(f64::total_cmp);
-    print!("{:<12} {count:>6}", call.name);
-    for at in [0, REPETITIONS / 2] {
-        let (library, second) = (library_times[at], second_times[at]);
-        print!("  {library:>8.1} {second:>8.1} {:>6.2}", second / library);
+/// The same messages, sealed by the second program.
+fn sealed(given: &Given, count: usize) -> Vec<[u8; SEALED]> {
+    let mut out = vec![[0; SEALED]; count];
+    for (serial, message) in messages(given, count).iter().enumerate() {
+        (SEAL.second)(given, serial as u64, message, &mut out[serial]);
     }
-    println!();
+    out
+}
+
+impl<I> Call<I> {
+    /// Works on each input once.
+    fn pass(&self, given: &Given, one: One<I>, inputs: &[I], out: &mut [u8]) {
+        let places = opaque(out).chunks_exact_mut(self.answer);
+        for (index, (input, place)) in inputs.iter().zip(places).enumerate() {
+            one(given, index as u64, input, place);
+        }
+    }
+
+    /// Nanoseconds an input, over so many of them.
+    fn time(&self, given: &Given, one: One<I>, inputs: &[I], total: usize, out: &mut [u8]) -> f64 {
+        let passes = total / inputs.len();
+        let start = Instant::now();
+        for _ in 0..passes {
+            self.pass(given, one, inputs, out);
+        }
+        start.elapsed().as_nanos() as f64 / (passes * inputs.len()) as f64
+    }
+
+    /// Times both on a run of `count` inputs, passed over until it comes to `total`, prints their best
+    /// and median times, and gives the output.
+    fn row(&self, given: &Given, count: usize, total: usize) -> Vec<u8> {
+        let inputs = (self.inputs)(given, count);
+        let mut library_out = vec![0; self.answer * count];
+        let mut second_out = library_out.clone();
+        let mut library_times = Vec::new();
+        let mut second_times = Vec::new();
+        let mut library =
+            || library_times.push(self.time(given, self.library, &inputs, total, &mut library_out));
+        let mut second =
+            || second_times.push(self.time(given, self.second, &inputs, total, &mut second_out));
+        for _ in 0..REPETITIONS / 2 {
+            library();
+            second();
+            second();
+            library();
+        }
+        assert_eq!(
+            library_out, second_out,
+            "library and second program disagree"
+        );
+
+        library_times.sort_by(f64::total_cmp);
+        second_times.sort_by(f64::total_cmp);
+        print!("{:<12} {count:>6}", self.name);
+        for at in [0, REPETITIONS / 2] {
+            let (library, second) = (library_times[at], second_times[at]);
+            print!("  {library:>8.1} {second:>8.1} {:>6.2}", second / library);
+        }
+        println!();
+        library_out
+    }
+
+    /// Makes inputs and works on so many of them, by the program that the words name.
+    fn work(&self, given: &Given, [program, made, count]: [&str; 3]) {
+        let one = match program {
+            "library" => self.library,
+            "second" => self.second,
+            _ => panic!("library or second"),
+        };
+        let number = |word: &str| word.parse().expect("a number");
+        let inputs = (self.inputs)(given, number(made));
+        let mut out = vec![0; self.answer * inputs.len()];
+        self.pass(given, one, &inputs[..number(count)], &mut out);
+    }
 }
 
 fn times(given: &Given) {
@@ -127,23 +210,16 @@ fn times(given: &Given) {
     println!("ns a block          ------- best ---------  ------ median --------");
     println!("call         blocks   library   second  ratio   library   second  ratio");
     for count in [BLOCKS, 8] {
-        for call in &CALLS {
-            row(given, call, count);
-        }
+        ENCIPHER.row(given, count, BLOCKS);
+        ENGINE.row(given, count, BLOCKS);
     }
-}
-
-/// Works on so many blocks, by the call and the program that the words name.
-fn work(given: &Given, words: &[String]) -> Option<()> {
-    let call = CALLS.iter().find(|call| call.name == words[0])?;
-    let one = match words[1].as_str() {
-        "library" => call.library,
-        "second" => call.second,
-        _ => return None,
-    };
-    let blocks = random_blocks(words[2].parse().ok()?);
-    pass(given, one, &blocks, &mut vec![0; 8 * blocks.len()]);
-    Some(())
+    println!();
+    println!("ns a frame, message of {MESSAGE} bytes and label of {LABEL}");
+    println!("                    ------- best ---------  ------ median --------");
+    println!("call         frames   library   second  ratio   library   second  ratio");
+    SEAL.row(given, FRAMES, FRAMES);
+    let opened = OPEN.row(given, FRAMES, FRAMES);
+    assert_eq!(opened, messages(given, FRAMES).concat());
 }
 
 fn main() {
@@ -152,16 +228,22 @@ fn main() {
         w0: rng.word(),
         k0: rng.word(),
     });
+    let label = rng.bytes(LABEL).try_into().expect("as many bytes");
     let given = Given {
         settings: opaque((1, 7)),
         key,
         schedule: opaque(qarma::schedule(key)),
+        label: opaque(label),
     };
     println!("second program: {} for {ARCH}", env!("RUSTC_VERSION"));
     let words: Vec<String> = env::args().skip(1).collect();
-    match words.len() {
-        0 => times(&given),
-        3 => work(&given, &words).expect("CALL library|second BLOCKS"),
-        _ => panic!("none or three words"),
+    let words: Vec<&str> = words.iter().map(String::as_str).collect();
+    match words[..] {
+        [] => times(&given),
+        ["kk_encipher", a, b, c] => ENCIPHER.work(&given, [a, b, c]),
+        ["kk_engine", a, b, c] => ENGINE.work(&given, [a, b, c]),
+        ["kk_seal", a, b, c] => SEAL.work(&given, [a, b, c]),
+        ["kk_open", a, b, c] => OPEN.work(&given, [a, b, c]),
+        _ => panic!("none or CALL library|second MADE COUNT"),
     }
 }

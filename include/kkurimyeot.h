@@ -1,5 +1,6 @@
 /*
- * kkurimyeot.h - the QARMA-64 block engine for C, and frames sealed with it.
+ * kkurimyeot.h - the QARMA-64 block engine for C, and frames sealed and opened
+ * with it.
  *
  * This header is the manual. Link with libkkurimyeot.a.
  *
@@ -21,12 +22,16 @@
  *   label     Bytes that travel openly beside the message and that the tag also
  *             covers: 0 to KK_LABEL_MAX.
  *   serial    The number of a frame under its key: 0 to KK_SERIAL_MAX.
+ *   fill      What makes a last part of 1 to 7 bytes a block: byte 0x80, and then
+ *             bytes 0x00.
  *   tag       8 bytes that depend on key, serial, label and message. By them a
  *             changed frame is known.
  *   seal      To seal a message is to encipher it, block by block, and to make
  *             its tag.
  *   sealed    The enciphered blocks and then the tag. KK_SEALED_BYTES() gives
  *   bytes     their number.
+ *   open      To open sealed bytes is to decipher them and to give the message if
+ *             tag and fill agree.
  *   frame     A serial, a label and sealed bytes.
  *   refusal   The number that says why a call did nothing.
  *
@@ -36,29 +41,30 @@
  *
  * Numbers and lent memory
  *
- * Words, tweaks, blocks, box, rounds and serials are passed as uint64_t. Each of
- * them may have any value: one outside its limits is refused, whatever its upper
- * bits.
+ * Words, tweaks, blocks, box, rounds, serials and the length of a message to be
+ * opened are passed as uint64_t. Each of them may have any value: one outside its
+ * limits is refused, whatever its upper bits.
  *
- * A label or a message is passed as a pointer and the number of bytes there. All
- * these bytes must be the caller's to read, even if they are too many and the
- * call is refused. They are never written.
+ * A label, a message or sealed bytes are passed as a pointer and the number of
+ * bytes there. All these bytes must be the caller's to read, even if they are too
+ * many or too few and the call is refused. They are never written.
  *
  * An answer is written to memory that the caller lends: a pointer `out` and the
  * number of bytes there, `out_length`. All `out_length` bytes must be the
- * caller's to write, and none of them may belong to the label or the message. An
- * answer made of words has 8 bytes for each, the most significant first.
+ * caller's to write, and none of them may belong to the label, the message or the
+ * sealed bytes. An answer made of words has 8 bytes for each, the most
+ * significant first.
  *
  * A call that succeeds writes the first bytes of the lent memory, as many as the
  * function says. Every byte past them stays as it was. A call that is refused
  * changes no byte.
  *
- * No pointer needs alignment. Where a length is 0, the pointer before it may be
- * any, NULL among them: nothing is read or written through it. (Looked up in the
- * code that the compiler is given, and tried in tests/calls.c.)
+ * No pointer needs alignment. A pointer to 0 bytes may be any, NULL among them:
+ * nothing is read or written through it. (Looked up in the code that the compiler
+ * is given, and tried in tests/calls.c.)
  *
- * An answer depends on the numbers and on the bytes of label and message alone,
- * and not on earlier calls or on what the lent memory held.
+ * An answer depends only on the numbers and bytes that are passed, and not on
+ * earlier calls or on what the lent memory held.
  *
  *
  * The returned number
@@ -77,9 +83,10 @@
  * Not promised
  *
  * Nothing is promised about how long a call takes, nor that it takes equally
- * long for all keys, blocks and messages. Copies of keys, blocks and messages
- * that a call leaves in registers or on the stack are not wiped. No call knows
- * which serials were used before.
+ * long for all keys, blocks, messages and sealed bytes. Copies of keys, blocks
+ * and messages that a call leaves in registers or on the stack are not wiped; a
+ * refused kk_open() too may leave some there. No call knows which serials were
+ * used before: a frame opens as often as it is handed in.
  *
  *
  * Examples
@@ -242,6 +249,35 @@ uint64_t kk_seal(uint64_t w0, uint64_t k0, uint64_t serial,
                  const uint8_t *KK_RESTRICT message, size_t message_length,
                  uint8_t *KK_RESTRICT out, size_t out_length);
 
+/*
+ * The message that the sealed bytes hold under the key (w0, k0), a serial and a
+ * label: their blocks deciphered, each in its place, if tag and fill agree.
+ *
+ * It is told the message length, which sealed bytes do not carry. Within the
+ * limits and with enough room, it accepts exactly the sealed bytes that kk_seal()
+ * gives for some message of that length under that key, serial and label, and it
+ * writes that message.
+ *
+ * Under one key, serial and label, sealed bytes open at one length at most that is
+ * not a multiple of 8: the fill shows where the message ends. That they do not
+ * open at a multiple of 8 as well rests on the tag, as with any changed frame.
+ *
+ * Refusals, in this order:
+ *   KK_REFUSED_LENGTH if message_length is above KK_MESSAGE_MAX, or label_length
+ *                     above KK_LABEL_MAX;
+ *   KK_REFUSED_SERIAL if serial is above KK_SERIAL_MAX;
+ *   KK_REFUSED_SEALED if sealed_length is not KK_SEALED_BYTES(message_length);
+ *   KK_REFUSED_ROOM   if out_length is below message_length;
+ *   KK_REFUSED_TAG    if tag or fill disagrees.
+ * Writes the message to the first message_length bytes of out, at most 1024 and
+ * perhaps none, and writes no byte before it has accepted.
+ */
+uint64_t kk_open(uint64_t w0, uint64_t k0, uint64_t serial,
+                 uint64_t message_length,
+                 const uint8_t *KK_RESTRICT label, size_t label_length,
+                 const uint8_t *KK_RESTRICT sealed, size_t sealed_length,
+                 uint8_t *KK_RESTRICT out, size_t out_length);
+
 #ifdef KK_EXAMPLE
 /* Enciphers a block and deciphers it again. Gives 1 if the block came back. */
 static inline int kk_example(uint64_t w0, uint64_t k0,
@@ -279,6 +315,25 @@ static inline uint32_t kk_seal_example(uint64_t w0, uint64_t k0,
     }
     *next_serial += 1; /* never the same serial again */
     return kk_count(answer);
+}
+
+/* Opens what kk_seal_example() has sealed, given the serial that it used and the
+   length of the reading. Gives 1 if out has the reading now, and 0 if the reading
+   is too long or the frame is not as it was sealed. */
+static inline int kk_open_example(uint64_t w0, uint64_t k0,
+                                  uint64_t serial, uint8_t lane, size_t length,
+                                  const uint8_t *sealed, size_t sealed_length,
+                                  uint8_t out[20])
+{
+    uint64_t answer;
+
+    answer = kk_open(w0, k0, serial, length, &lane, 1, sealed, sealed_length,
+                     out, 20);
+    if (kk_refusal(answer) != KK_NOT_REFUSED) {
+        return 0; /* nothing was written to out */
+    }
+    /* kk_count(answer) is length now. */
+    return 1;
 }
 #endif
 

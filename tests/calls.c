@@ -41,11 +41,15 @@ static const uint8_t sealed_last[] = {
     0xD4, 0x58, 0x44, 0xCE, 0x00, 0xA9, 0xD8, 0x5F,
 };
 
-/* A message and a label may be the first bytes of this: one more than allowed. */
-static const uint8_t long_bytes[KK_MESSAGE_MAX + 1];
+/* A message and a label of one byte more than allowed, and sealed bytes for such a
+   message, may be the first bytes of this. */
+static const uint8_t long_bytes[KK_SEALED_BYTES(KK_MESSAGE_MAX + 1)];
 
 /* The memory lent to each call: more than any answer here needs. */
 static uint8_t out[KK_SCHEDULE_BYTES + 8];
+
+/* Lent where a message of one byte more than allowed would fit. All zeros. */
+static uint8_t long_out[KK_MESSAGE_MAX + 1];
 
 static unsigned checks;
 
@@ -158,6 +162,185 @@ static void seals(void)
     refused(answer, KK_REFUSED_ROOM, "kk_seal, all null");
 }
 
+/* What kk_open() is given, beside the key above. */
+struct opening {
+    uint64_t serial, message_length;
+    const void *label;
+    size_t label_length;
+    const uint8_t *sealed;
+    size_t sealed_length;
+    uint8_t *out;
+    size_t out_length;
+};
+
+/* The first of the frames above. */
+static const struct opening known = {
+    SERIAL, sizeof MESSAGE - 1, LABEL, sizeof LABEL - 1, sealed, sizeof sealed, out, sizeof out,
+};
+
+static uint64_t opened(struct opening o)
+{
+    lend();
+    return kk_open(W0, K0, o.serial, o.message_length, o.label, o.label_length,
+                   o.sealed, o.sealed_length, o.out, o.out_length);
+}
+
+static void wrote_text(uint64_t answer, const char *text, const char *what)
+{
+    wrote_bytes(answer, (const uint8_t *)text, strlen(text), what);
+}
+
+static void opens(void)
+{
+    struct opening o;
+
+    wrote_text(opened(known), MESSAGE, "kk_open");
+    o = known;
+    o.out_length = strlen(MESSAGE);
+    wrote_text(opened(o), MESSAGE, "kk_open, exact room");
+
+    o = known;
+    o.serial = KK_SERIAL_MAX;
+    o.message_length = 5;
+    o.label = "\4";
+    o.label_length = 1;
+    o.sealed = sealed_last;
+    o.sealed_length = sizeof sealed_last;
+    wrote_text(opened(o), "27.41", "kk_open, the greatest serial");
+
+    /* No bytes at all, by null pointers. */
+    o = known;
+    o.message_length = 0;
+    o.label = NULL;
+    o.label_length = 0;
+    o.sealed = sealed_empty;
+    o.sealed_length = sizeof sealed_empty;
+    wrote_text(opened(o), "", "kk_open, null label");
+    o.out = NULL;
+    o.out_length = 0;
+    wrote_text(opened(o), "", "kk_open, null label and out");
+    o.sealed = NULL;
+    o.sealed_length = 0;
+    refused(opened(o), KK_REFUSED_SEALED, "kk_open, all null");
+    o = known;
+    o.sealed = NULL;
+    o.sealed_length = 0;
+    refused(opened(o), KK_REFUSED_SEALED, "kk_open, null sealed bytes");
+    o = known;
+    o.out = NULL;
+    o.out_length = 0;
+    refused(opened(o), KK_REFUSED_ROOM, "kk_open, null out");
+}
+
+/* The refusals of kk_open(), each for one fault alone. */
+static void opens_not(void)
+{
+    uint8_t bytes[sizeof sealed + 1] = { 0 };
+    struct opening o;
+
+    memcpy(bytes, sealed, sizeof sealed);
+
+    o = known;
+    o.message_length = KK_MESSAGE_MAX + 1;
+    o.sealed = long_bytes;
+    o.sealed_length = sizeof long_bytes;
+    o.out = long_out;
+    o.out_length = sizeof long_out;
+    refused(opened(o), KK_REFUSED_LENGTH, "kk_open, long message");
+    check(memcmp(long_out, long_bytes, sizeof long_out) == 0, "kk_open, long message, lent memory");
+    o = known;
+    o.message_length = UINT64_MAX;
+    refused(opened(o), KK_REFUSED_LENGTH, "kk_open, the greatest message length");
+    o.message_length = (UINT64_C(1) << 32) + strlen(MESSAGE);
+    refused(opened(o), KK_REFUSED_LENGTH, "kk_open, message length right in 32 bits");
+    o = known;
+    o.label = long_bytes;
+    o.label_length = KK_LABEL_MAX + 1;
+    refused(opened(o), KK_REFUSED_LENGTH, "kk_open, long label");
+
+    o = known;
+    o.serial = KK_SERIAL_MAX + 1;
+    refused(opened(o), KK_REFUSED_SERIAL, "kk_open, bad serial");
+    o.serial += SERIAL;
+    refused(opened(o), KK_REFUSED_SERIAL, "kk_open, serial right in 44 bits");
+
+    o = known;
+    o.sealed_length--;
+    refused(opened(o), KK_REFUSED_SEALED, "kk_open, a sealed byte less");
+    o.sealed = bytes;
+    o.sealed_length = sizeof bytes;
+    refused(opened(o), KK_REFUSED_SEALED, "kk_open, a sealed byte more");
+    o = known;
+    o.message_length = 8;
+    refused(opened(o), KK_REFUSED_SEALED, "kk_open, length of a block less");
+    o.message_length = 17;
+    refused(opened(o), KK_REFUSED_SEALED, "kk_open, length of a block more");
+
+    o = known;
+    o.out_length = strlen(MESSAGE) - 1;
+    refused(opened(o), KK_REFUSED_ROOM, "kk_open, short");
+
+    o = known;
+    o.message_length--;
+    refused(opened(o), KK_REFUSED_TAG, "kk_open, length of a byte less");
+    o.message_length += 2;
+    refused(opened(o), KK_REFUSED_TAG, "kk_open, length of a byte more");
+    o.message_length = 16;
+    refused(opened(o), KK_REFUSED_TAG, "kk_open, length of whole blocks");
+    o = known;
+    o.serial++;
+    refused(opened(o), KK_REFUSED_TAG, "kk_open, another serial");
+    o = known;
+    o.label_length--;
+    refused(opened(o), KK_REFUSED_TAG, "kk_open, another label");
+    o = known;
+    o.sealed = bytes;
+    bytes[0] ^= 1;
+    refused(opened(o), KK_REFUSED_TAG, "kk_open, changed block");
+    bytes[0] ^= 1;
+    bytes[sizeof sealed - 1] ^= 1;
+    refused(opened(o), KK_REFUSED_TAG, "kk_open, changed tag");
+    bytes[sizeof sealed - 1] ^= 1;
+    wrote_text(opened(o), MESSAGE, "kk_open, changed back");
+}
+
+/* The order of the refusals of kk_open(): all is bad, and is put right from the first on. */
+static void opens_at_last(void)
+{
+    uint8_t bytes[sizeof sealed];
+    struct opening o;
+
+    memcpy(bytes, sealed, sizeof sealed);
+    bytes[0] ^= 1;
+    o.serial = KK_SERIAL_MAX + 1;
+    o.message_length = KK_MESSAGE_MAX + 1;
+    o.label = long_bytes;
+    o.label_length = KK_LABEL_MAX + 1;
+    o.sealed = bytes;
+    o.sealed_length = sizeof bytes - 1;
+    o.out = out;
+    o.out_length = strlen(MESSAGE) - 1;
+    refused(opened(o), KK_REFUSED_LENGTH, "kk_open, all bad");
+    o.label = LABEL;
+    o.label_length = strlen(LABEL);
+    refused(opened(o), KK_REFUSED_LENGTH, "kk_open, message length to tag bad");
+    o.message_length = strlen(MESSAGE);
+    o.label = long_bytes;
+    o.label_length = KK_LABEL_MAX + 1;
+    refused(opened(o), KK_REFUSED_LENGTH, "kk_open, label to tag bad");
+    o.label = LABEL;
+    o.label_length = strlen(LABEL);
+    refused(opened(o), KK_REFUSED_SERIAL, "kk_open, serial to tag bad");
+    o.serial = SERIAL;
+    refused(opened(o), KK_REFUSED_SEALED, "kk_open, sealed length to tag bad");
+    o.sealed_length = sizeof bytes;
+    refused(opened(o), KK_REFUSED_ROOM, "kk_open, room and tag bad");
+    o.out_length = strlen(MESSAGE);
+    refused(opened(o), KK_REFUSED_TAG, "kk_open, tag bad");
+    bytes[0] ^= 1;
+    wrote_text(opened(o), MESSAGE, "kk_open, all put right");
+}
+
 /* The header's example of sealing: the last serial is used once and no more. */
 static void seals_by_example(void)
 {
@@ -170,6 +353,33 @@ static void seals_by_example(void)
     lend();
     check(kk_seal_example(W0, K0, &next, 4, reading, sizeof reading, out) == 0, "no serial left");
     check(next == KK_SERIAL_MAX + 1 && untouched_from(0), "no serial left, nothing changed");
+}
+
+/* The header's example of opening, on what its example of sealing gives. */
+static void opens_by_example(void)
+{
+    static const uint8_t reading[20] = "touch 27.41, lane 4";
+    uint8_t frame[KK_SEALED_BYTES(20)];
+    uint64_t next = SERIAL;
+    uint32_t length;
+    size_t i;
+
+    length = kk_seal_example(W0, K0, &next, 4, reading, 20, frame);
+    check(length == sizeof frame && next == SERIAL + 1, "a sealed reading");
+    check(kk_open_example(W0, K0, SERIAL, 4, 20, frame, length, lend()), "an opened reading");
+    wrote_bytes(20, reading, 20, "the header's example of opening");
+
+    lend();
+    check(!kk_open_example(W0, K0, SERIAL, 5, 20, frame, length, out), "another lane");
+    check(!kk_open_example(W0, K0, next, 4, 20, frame, length, out), "another serial");
+    check(!kk_open_example(W0, K0, SERIAL, 4, 21, frame, length, out), "another length");
+    check(!kk_open_example(W0, K0, SERIAL, 4, 20, frame, length - 1, out), "a frame cut short");
+    for (i = 0; i < sizeof frame; i++) {
+        frame[i] ^= 1;
+        check(!kk_open_example(W0, K0, SERIAL, 4, 20, frame, length, out), "a damaged frame");
+        frame[i] ^= 1;
+    }
+    check(untouched_from(0), "no reading opened, nothing changed");
 }
 
 int main(void)
@@ -215,9 +425,13 @@ int main(void)
     refused(kk_decipher(1, 7, W0, K0, TWEAK, PLAIN, NULL, 0), KK_REFUSED_ROOM, "kk_decipher, null");
 
     seals();
+    opens();
+    opens_not();
+    opens_at_last();
 
     check(kk_example(W0, K0, TWEAK, PLAIN), "the header's example");
     seals_by_example();
+    opens_by_example();
 
     printf("c caller: %u checks passed\n", checks);
     return 0;

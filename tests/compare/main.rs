@@ -2,6 +2,8 @@
 
 mod blocks;
 mod frames;
+mod opening;
+mod sealing;
 
 use second::harness::Tally;
 use std::process::ExitCode;
@@ -9,6 +11,7 @@ use std::process::ExitCode;
 fn main() -> ExitCode {
     let mut tally = Tally::default();
     blocks::compare(&mut tally);
-    frames::compare(&mut tally);
+    sealing::compare(&mut tally);
+    opening::compare(&mut tally);
     tally.finish()
 }

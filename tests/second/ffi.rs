@@ -49,6 +49,18 @@ mod c {
             out: *mut u8,
             out_length: usize,
         ) -> u64;
+        pub fn kk_open(
+            w0: u64,
+            k0: u64,
+            serial: u64,
+            message_length: u64,
+            label: *const u8,
+            label_length: usize,
+            sealed: *const u8,
+            sealed_length: usize,
+            out: *mut u8,
+            out_length: usize,
+        ) -> u64;
     }
 }
 
@@ -126,6 +138,33 @@ pub fn seal(key: Key, serial: u64, label: &[u8], message: &[u8], out: &mut [u8])
             label_length,
             message,
             message_length,
+            place,
+            room,
+        )
+    }
+}
+
+pub fn open(
+    key: Key,
+    serial: u64,
+    message_length: u64,
+    label: &[u8],
+    sealed: &[u8],
+    out: &mut [u8],
+) -> u64 {
+    let (label, label_length) = (label.as_ptr(), label.len());
+    let (sealed, sealed_length) = (sealed.as_ptr(), sealed.len());
+    let (place, room) = (out.as_mut_ptr(), out.len());
+    unsafe {
+        c::kk_open(
+            key.w0,
+            key.k0,
+            serial,
+            message_length,
+            label,
+            label_length,
+            sealed,
+            sealed_length,
             place,
             room,
         )

@@ -1,6 +1,6 @@
 //! Frames, from document 01: "Sealing and opening", the sizes, and the refusals 2 to 6.
 
-use crate::qarma::{self, Key};
+use crate::qarma::{self, Key, Schedule};
 
 /// Frames use box 1 and r = 7.
 const BOX: usize = 1;
@@ -54,6 +54,11 @@ fn fill(part: &[u8]) -> u64 {
     u64::from_be_bytes(bytes)
 }
 
+/// The words of the blocks of a message, filled.
+pub fn blocks(message: &[u8]) -> impl Iterator<Item = u64> + '_ {
+    message.chunks(BLOCK).map(fill)
+}
+
 /// How many blocks there are in so many bytes.
 fn block_count(length: usize) -> usize {
     (length + BLOCK - 1) / BLOCK
@@ -67,19 +72,25 @@ pub fn sealed_length(message_length: usize) -> usize {
 /// What a frame is sealed or opened under, besides its label.
 #[derive(Clone, Copy)]
 struct Seal {
-    key: Key,
+    schedule: Schedule,
     serial: u64,
 }
 
 impl Seal {
-    fn encipher(self, purpose: Purpose, index: usize, word: u64) -> u64 {
-        let tweak = tweak(purpose, self.serial, index);
-        qarma::encipher(BOX, ROUNDS, self.key, tweak, word)
+    fn new(key: Key, serial: u64) -> Self {
+        let schedule = qarma::schedule(key);
+        Self { schedule, serial }
     }
 
-    fn decipher(self, purpose: Purpose, index: usize, word: u64) -> u64 {
+    /// By the turned schedule, enciphering is deciphering.
+    fn turned(self) -> Self {
+        let schedule = qarma::turn(self.schedule);
+        Self { schedule, ..self }
+    }
+
+    fn encipher(self, purpose: Purpose, index: usize, word: u64) -> u64 {
         let tweak = tweak(purpose, self.serial, index);
-        qarma::decipher(BOX, ROUNDS, self.key, tweak, word)
+        qarma::engine(BOX, ROUNDS, self.schedule, tweak, word)
     }
 
     /// The sum of all enciphered label blocks.
@@ -103,6 +114,29 @@ impl Seal {
         };
         self.encipher(purpose, block_count(message_length), sum) ^ self.label_sum(label)
     }
+
+    /// Writes the sealed bytes of the message of this length that has these blocks, filled.
+    fn put_sealed(
+        self,
+        label: &[u8],
+        message_length: usize,
+        blocks: impl Iterator<Item = u64>,
+        out: &mut [u8],
+    ) {
+        let (places, tag) = out.split_at_mut(BLOCK * block_count(message_length));
+        let mut sum = 0;
+        for (i, (block, place)) in blocks.zip(places.chunks_mut(BLOCK)).enumerate() {
+            let purpose = message_purpose(bytes_in_block(message_length, i));
+            place.copy_from_slice(&self.encipher(purpose, i, block).to_be_bytes());
+            sum ^= block;
+        }
+        tag.copy_from_slice(&self.tag(label, message_length, sum).to_be_bytes());
+    }
+}
+
+/// How many bytes of a message are in its block i.
+fn bytes_in_block(message_length: usize, i: usize) -> usize {
+    BLOCK.min(message_length - BLOCK * i)
 }
 
 /// The purpose of a message block, for the number of message bytes in it.
@@ -125,57 +159,64 @@ fn limits(message_length: u64, label: &[u8], serial: u64) -> Result<(), Refusal>
     Ok(())
 }
 
-/// The sealed bytes, for an output of `room` bytes.
+/// Writes the sealed bytes and answers how many they are.
 pub fn seal(
     key: Key,
     serial: u64,
     label: &[u8],
     message: &[u8],
-    room: usize,
-) -> Result<Vec<u8>, Refusal> {
+    out: &mut [u8],
+) -> Result<usize, Refusal> {
     limits(message.len() as u64, label, serial)?;
-    if room < sealed_length(message.len()) {
+    let need = sealed_length(message.len());
+    if out.len() < need {
         return Err(Refusal::Room);
     }
 
-    let seal = Seal { key, serial };
-    let mut sealed = Vec::with_capacity(sealed_length(message.len()));
-    let mut sum = 0;
-    for (i, part) in message.chunks(BLOCK).enumerate() {
-        let word = fill(part);
-        let enciphered = seal.encipher(message_purpose(part.len()), i, word);
-        sealed.extend(enciphered.to_be_bytes());
-        sum ^= word;
-    }
-    sealed.extend(seal.tag(label, message.len(), sum).to_be_bytes());
-    Ok(sealed)
+    Seal::new(key, serial).put_sealed(label, message.len(), blocks(message), &mut out[..need]);
+    Ok(need)
 }
 
-/// The message of the stated length, for an output of `room` bytes.
+/// The sealed bytes of any blocks, with the tag that belongs to them: whether a size is exceeded, or
+/// the last block filled otherwise, is not looked at.
+pub fn seal_blocks(
+    key: Key,
+    serial: u64,
+    label: &[u8],
+    message_length: usize,
+    blocks: impl Iterator<Item = u64>,
+) -> Vec<u8> {
+    let mut sealed = vec![0; sealed_length(message_length)];
+    Seal::new(key, serial).put_sealed(label, message_length, blocks, &mut sealed);
+    sealed
+}
+
+/// Writes the message of the stated length and answers this length.
 pub fn open(
     key: Key,
     serial: u64,
     message_length: u64,
     label: &[u8],
     sealed: &[u8],
-    room: usize,
-) -> Result<Vec<u8>, Refusal> {
+    out: &mut [u8],
+) -> Result<usize, Refusal> {
     limits(message_length, label, serial)?;
     let message_length = message_length as usize;
     if sealed.len() != sealed_length(message_length) {
         return Err(Refusal::Sealed);
     }
-    if room < message_length {
+    if out.len() < message_length {
         return Err(Refusal::Room);
     }
 
-    let seal = Seal { key, serial };
+    let seal = Seal::new(key, serial);
+    let turned = seal.turned();
     let (blocks, tag) = sealed.split_at(sealed.len() - TAG);
-    let mut message = Vec::with_capacity(blocks.len());
+    let mut message = Vec::with_capacity(message_length);
     let mut sum = 0;
     for (i, block) in blocks.chunks(BLOCK).enumerate() {
-        let bytes = BLOCK.min(message_length - BLOCK * i);
-        let word = seal.decipher(message_purpose(bytes), i, fill(block));
+        let bytes = bytes_in_block(message_length, i);
+        let word = turned.encipher(message_purpose(bytes), i, fill(block));
         let part = &word.to_be_bytes()[..bytes];
         if word != fill(part) {
             return Err(Refusal::Tag);
@@ -186,7 +227,8 @@ pub fn open(
     if seal.tag(label, message_length, sum).to_be_bytes() != tag {
         return Err(Refusal::Tag);
     }
-    Ok(message)
+    out[..message_length].copy_from_slice(&message);
+    Ok(message_length)
 }
 
 #[cfg(test)]
@@ -198,13 +240,17 @@ mod tests {
     const SERIAL: u64 = 0x0123456789A;
 
     fn sealed(label: &[u8], message: &[u8]) -> Vec<u8> {
-        let room = sealed_length(message.len());
-        seal(KEY, SERIAL, label, message, room).expect("inside the limits")
+        let mut out = vec![0; sealed_length(message.len())];
+        let length = seal(KEY, SERIAL, label, message, &mut out);
+        assert_eq!(length, Ok(out.len()));
+        out
     }
 
     fn opened(label: &[u8], message_length: usize, sealed: &[u8]) -> Result<Vec<u8>, Refusal> {
-        let length = message_length as u64;
-        open(KEY, SERIAL, length, label, sealed, message_length)
+        let mut out = vec![0; message_length];
+        let length = open(KEY, SERIAL, message_length as u64, label, sealed, &mut out)?;
+        assert_eq!(length, message_length);
+        Ok(out)
     }
 
     #[test]
@@ -279,20 +325,15 @@ mod tests {
     /// A last block with another fill, under the tag that belongs to it.
     #[test]
     fn a_changed_fill_is_refused() {
-        let seal = Seal {
-            key: KEY,
-            serial: SERIAL,
-        };
         let label = b"label";
+        let with = |block, length| seal_blocks(KEY, SERIAL, label, length, [block].into_iter());
         for length in 1..=7 {
             let message = &b"message"[..length];
             let right = fill(message);
+            assert_eq!(with(right, length), sealed(label, message));
             for bit in 0..64 - 8 * length {
-                let word = right ^ 1 << bit;
-                let block = seal.encipher(Purpose::FilledMessageBlock, 0, word);
-                let tag = seal.tag(label, length, word);
-                let forged = [block.to_be_bytes(), tag.to_be_bytes()].concat();
-                assert_eq!(opened(label, length, &forged), Err(Refusal::Tag));
+                let changed = with(right ^ 1 << bit, length);
+                assert_eq!(opened(label, length, &changed), Err(Refusal::Tag));
             }
         }
     }
@@ -318,7 +359,8 @@ mod tests {
     fn refusals_come_in_order() {
         let (bytes, long) = ([0; 1_025], SERIAL_MAX + 1);
         let seal = |serial, label, message, room| {
-            seal(KEY, serial, &bytes[..label], &bytes[..message], room)
+            let mut out = vec![0; room];
+            seal(KEY, serial, &bytes[..label], &bytes[..message], &mut out)
         };
         assert_eq!(seal(long, 0, 1_025, 0), Err(Refusal::Length));
         assert_eq!(seal(long, 33, 0, 0), Err(Refusal::Length));
@@ -327,8 +369,8 @@ mod tests {
         assert!(seal(SERIAL_MAX, 32, 1_024, 1_032).is_ok());
 
         let open = |serial, length, label, sealed, room| {
-            let sealed = &[0; 2_000][..sealed];
-            open(KEY, serial, length, &bytes[..label], sealed, room)
+            let (sealed, mut out) = (vec![0; sealed], vec![0; room]);
+            open(KEY, serial, length, &bytes[..label], &sealed, &mut out)
         };
         assert_eq!(open(long, u64::MAX, 0, 7, 0), Err(Refusal::Length));
         assert_eq!(open(long, 1_025, 0, 7, 0), Err(Refusal::Length));

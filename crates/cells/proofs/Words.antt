@@ -1,12 +1,12 @@
 -- Words and their cells: cut and joined undo each other.
-use mathlib.Core.Path.{_≡_, sym, ap, _∙_}
+use mathlib.Core.Path.{_≡_, sym, ap, subst, _∙_}
 use mathlib.Core.List.{List, [], _∷_}
 use Prim.Native.Nat.{ℕ, zero, suc, _*_, _^_, _<_, suc-le-suc}
 use native.Mathlib.Nat.{zero-lt-suc}
 use native.Mathlib.Omega.{arith}
 use lib.ListN.{length}
 use Rattle.words.specs.Digits.{word, digits, Digits, none, more}
-use Rattle.words.proofs.Laws.{word-digits, digits-word, length-digits, digits-below}
+use Rattle.words.proofs.Laws.{word-digits, digits-word, length-digits, digits-below, word-lt}
 use Rattle.cells.specs.Lists.{_!_}
 use Rattle.cells.specs.Cells.{Below, cut, joined}
 use Rattle.cells.specs.declared.Cells.{Cells}
@@ -38,3 +38,7 @@ joined-cut m w h = word-digits m 16 w h
 pub cut-joined : (m : ℕ) {a : Cells} → Below m a → cut m (joined m a) ≡ a
 unfolding cut joined
 cut-joined m {a} b = ap (λ (l : List ℕ). record { at = l }) (ap (λ (n : ℕ). digits m n (word m (a .at))) (sym (b .size)) ∙ digits-word (below-digits b))
+
+pub joined-lt : {m : ℕ} {a : Cells} → Below m a → joined m a < 2 ^ (m * 16)
+unfolding joined
+joined-lt {m} {a} b = subst (λ (n : ℕ). word m (a .at) < 2 ^ (m * n)) (b .size) (word-lt (below-digits b))

@@ -8,7 +8,7 @@ use Rattle.cells.specs.Cells.{Below, cut, joined}
 use Rattle.cells.specs.declared.Cells.{Cells}
 use Rattle.cells.specs.Qarma64.{qarma64}
 use Rattle.cells.proofs.Lawful.{lawful64}
-use Rattle.cells.proofs.Words.{cut-below, joined-cut, cut-joined}
+use Rattle.cells.proofs.Words.{cut-below, joined-cut, cut-joined, joined-lt}
 use Rattle.cipher.specs.Engine.{ScheduleBelow, scheduleOf, outer, keySchedule, engine, turned}
 use Rattle.cipher.specs.Words.{cutWords, wordsOf, turnedWords, engineWord, ran, encipherCall, decipherCall}
 use Rattle.cipher.specs.declared.Schedule.{Schedule}
@@ -30,6 +30,9 @@ pub record Four (s : Words) : Type 0 where
 pub schedule-below : (m w0 w1 k0 k1 : ℕ) → ScheduleBelow m (scheduleOf m w0 w1 k0 k1)
 schedule-below m w0 w1 k0 k1 = record { w0 = cut-below m w0; w1 = cut-below m w1; k0 = cut-below m k0; k1 = cut-below m k1 }
 
+pub key-below : (w0 k0 : ℕ) → ScheduleBelow 4 (keySchedule 4 w0 k0)
+key-below w0 k0 = schedule-below 4 w0 (outer 64 w0) k0 k0
+
 cut-words : {s : Schedule} → ScheduleBelow 4 s → cutWords (wordsOf s) ≡ s
 unfolding wordsOf
 cut-words g = λ i. record { w0 = cut-joined 4 (g .w0) i; w1 = cut-joined 4 (g .w1) i; k0 = cut-joined 4 (g .k0) i; k1 = cut-joined 4 (g .k1) i }
@@ -50,11 +53,25 @@ cut-turned s = cut-words (turned-below lawful64 (schedule-below 4 (s .w0) (s .w1
 -- ---- demand 3: "One engine runs both ways, under a schedule and under the turned schedule, on any four words."
 
 -- what one schedule does to a block, another undoes
-word-undone : (b r : ℕ) (s u : Schedule) (t p : ℕ) → p < 2 ^ 64 → Below 4 (engine qarma64 b r s (cut 4 t) (cut 4 p))
+undone-by : (b r : ℕ) (s u : Schedule) (t p : ℕ) → p < 2 ^ 64 → Below 4 (engine qarma64 b r s (cut 4 t) (cut 4 p))
     → engine qarma64 b r u (cut 4 t) (engine qarma64 b r s (cut 4 t) (cut 4 p)) ≡ cut 4 p
     → engineWord b r u t (engineWord b r s t p) ≡ p
-word-undone b r s u t p h below e =
+undone-by b r s u t p h below e =
     ap (λ (x : Cells). joined 4 (engine qarma64 b r u (cut 4 t) x)) (cut-joined 4 below) ∙ ap (joined 4) e ∙ joined-cut 4 p h
+
+module _ (b r : ℕ) (box : b ≤ 2) {s : Schedule} (g : ScheduleBelow 4 s) (t : ℕ) where
+  -- the engine's word has 64 bits
+  pub word-below : (p : ℕ) → engineWord b r s t p < 2 ^ 64
+  word-below p = joined-lt (engine-below lawful64 g (omega arith) r (cut-below 4 t) (cut-below 4 p))
+
+  -- under any schedule of sixteen cells a word, the turned schedule undoes the first, and the first the turned
+  pub word-undone : {p : ℕ} → p < 2 ^ 64 → engineWord b r (turned qarma64 s) t (engineWord b r s t p) ≡ p
+  word-undone {p} h =
+      undone-by b r s (turned qarma64 s) t p h (engine-below lawful64 g (omega arith) r (cut-below 4 t) (cut-below 4 p)) (undone lawful64 g (omega arith) r (cut-below 4 t) (cut-below 4 p))
+
+  pub word-redone : {p : ℕ} → p < 2 ^ 64 → engineWord b r s t (engineWord b r (turned qarma64 s) t p) ≡ p
+  word-redone {p} h =
+      undone-by b r (turned qarma64 s) s t p h (engine-below lawful64 (turned-below lawful64 g) (omega arith) r (cut-below 4 t) (cut-below 4 p)) (redone lawful64 g (omega arith) r (cut-below 4 t) (cut-below 4 p))
 
 module _ (b r : ℕ) (box : b ≤ 2) (s : Words) (t p : ℕ) (h : p < 2 ^ 64) where
   abbrev below : ScheduleBelow 4 (cutWords s)
@@ -62,15 +79,11 @@ module _ (b r : ℕ) (box : b ≤ 2) (s : Words) (t p : ℕ) (h : p < 2 ^ 64) wh
 
   -- the engine under the turned schedule undoes the engine under the first
   pub turned-undoes : engineWord b r (cutWords (turnedWords s)) t (engineWord b r (cutWords s) t p) ≡ p
-  turned-undoes =
-      ap (λ (u : Schedule). engineWord b r u t (engineWord b r (cutWords s) t p)) (cut-turned s)
-      ∙ word-undone b r (cutWords s) (turned qarma64 (cutWords s)) t p h (engine-below lawful64 below (omega arith) r (cut-below 4 t) (cut-below 4 p)) (undone lawful64 below (omega arith) r (cut-below 4 t) (cut-below 4 p))
+  turned-undoes = ap (λ (u : Schedule). engineWord b r u t (engineWord b r (cutWords s) t p)) (cut-turned s) ∙ word-undone b r box below t h
 
   -- and the other way round
   pub undoes-turned : engineWord b r (cutWords s) t (engineWord b r (cutWords (turnedWords s)) t p) ≡ p
-  undoes-turned =
-      ap (λ (u : Schedule). engineWord b r (cutWords s) t (engineWord b r u t p)) (cut-turned s)
-      ∙ word-undone b r (turned qarma64 (cutWords s)) (cutWords s) t p h (engine-below lawful64 (turned-below lawful64 below) (omega arith) r (cut-below 4 t) (cut-below 4 p)) (redone lawful64 below (omega arith) r (cut-below 4 t) (cut-below 4 p))
+  undoes-turned = ap (λ (u : Schedule). engineWord b r (cutWords s) t (engineWord b r u t p)) (cut-turned s) ∙ word-redone b r box below t h
 
 -- turning twice gives the first schedule back
 pub turned-words-twice : (s : Words) → Four s → turnedWords (turnedWords s) ≡ s
@@ -106,7 +119,5 @@ deciphered b r w0 k0 t p hb lo hi h x e =
     let s : Schedule = keySchedule 4 w0 k0 in
     let same : Word x ≡ Word (engineWord b r s t p) = sym e ∙ sym (ran-within b r s t p hb lo hi) in
     let made : x ≡ engineWord b r s t p = cc in
-    let below = schedule-below 4 w0 (outer 64 w0) k0 k0 in
     sym (ran-within b r (turned qarma64 s) t x hb lo hi)
-    ∙ ap Word (ap (engineWord b r (turned qarma64 s) t) made
-    ∙ word-undone b r s (turned qarma64 s) t p h (engine-below lawful64 below (omega arith) r (cut-below 4 t) (cut-below 4 p)) (undone lawful64 below (omega arith) r (cut-below 4 t) (cut-below 4 p)))
+    ∙ ap Word (ap (engineWord b r (turned qarma64 s) t) made ∙ word-undone b r hb (key-below w0 k0) t h)

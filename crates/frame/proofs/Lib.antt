@@ -1,2 +1,6 @@
 pub mod Laws
+pub mod Parts
+pub mod Fills
+pub mod Opening
+pub mod Demands
 pub mod Outcomes

@@ -5,3 +5,6 @@ use Rattle.frame.proofs
 
 pub seal-decided : Decided proofs.seal.Kinds.ps proofs.seal.Kinds.r proofs.seal.Reads.Post
 seal-decided κs a x y v w p q = ((λ i. (p ∙ sym q) i .0), λ i. (tt, (tt, (tt, (tt, (tt, ((p ∙ sym q) i .1, tt)))))))
+
+pub open-decided : Decided proofs.open.Kinds.ps proofs.open.Kinds.r proofs.open.Reads.Post
+open-decided κs a x y v w p q = ((λ i. (p ∙ sym q) i .0), λ i. (tt, (tt, (tt, (tt, (tt, (tt, ((p ∙ sym q) i .1, tt))))))))

@@ -1,9 +1,12 @@
 -- Document 01, "Sealing and opening": the tag, the sealed bytes, and what sealing and opening answer and leave.
+use mathlib.Core.Bool.{Bool, true, false}
+use mathlib.Core.Path.{_≡_}
 use mathlib.Core.List.{List, _++_}
-use Prim.Native.Nat.{ℕ, _+_, _-_, _*_, _^_}
+use Prim.Native.Nat.{ℕ, _+_, _-_, _*_, _/_, _%_, _^_, _≤_}
+use lib.Dec.{eqb}
 use lib.ListN.{length, take, drop}
-use Rattle.words.specs.Cases.{ifLe}
-use Rattle.words.specs.Digits.{_⊕_, word, digits, laid}
+use Rattle.words.specs.Cases.{ifLe, ifYes}
+use Rattle.words.specs.Digits.{_⊕_, word, digits, Digits, laid}
 use Rattle.refusals.specs.declared.Answer.{Answer}
 use Rattle.refusals.specs.declared.Answer.the-variants.{Wrote, Refused}
 use Rattle.refusals.specs.declared.Refusal.the-variants.{Length, Serial, SealedSize, Room, Disagrees}
@@ -52,3 +55,52 @@ sealing w0 k0 serial a m out =
     (Refused Serial, out))
     (Refused Length, out))
     (Refused Length, out)
+
+-- Opening: block i of the sealed bytes c of a message of n bytes, under the turned schedule u
+abbrev pub openedBlock : Schedule → ℕ → ℕ → List ℕ → ℕ → ℕ
+openedBlock u serial n c i = enciphered u (tweak (purpose 0 n i) serial i) (word 8 (part c i))
+
+-- "the first bytes up to the message length"
+abbrev pub openedMessage : Schedule → ℕ → ℕ → List ℕ → List ℕ
+openedMessage u serial n c = take n (laid (blocks n) (openedBlock u serial n c))
+
+-- "for a filled last block, the bytes past the length are exactly 80 and then 00s": the last block w of n bytes
+unfoldable pub fillRight : ℕ → ℕ → Bool
+fillRight n w = ifLe (n % 8) 0 true (eqb (w % 2 ^ (64 - n % 8 * 8)) (2 ^ (63 - n % 8 * 8)))
+
+-- "It accepts when the tag agrees and, for a filled last block, .."
+unfoldable pub accepted : Schedule → ℕ → List ℕ → ℕ → List ℕ → Bool
+accepted s serial a n c =
+    ifYes (fillRight n (openedBlock (turned qarma64 s) serial n c (n / 8)))
+    (eqb (tagOf s serial a n (sum (blocks n) (openedBlock (turned qarma64 s) serial n c))) (word 8 (part c (blocks n))))
+    false
+
+-- Opening: refusals 2 to 6 in this order, or "the first bytes up to the message length" in the place of the first bytes of the output
+unfoldable pub opening : ℕ → ℕ → ℕ → ℕ → List ℕ → List ℕ → List ℕ → Answer × List ℕ
+opening w0 k0 serial n a c out =
+    ifLe n 1024
+    (ifLe (length a) 32
+    (ifLe serial (2 ^ 44 - 1)
+    (ifYes (eqb (length c) (sealedSize n))
+    (ifLe n (length out)
+    (ifYes (accepted (keySchedule 4 w0 k0) serial a n c)
+    (Wrote n, openedMessage (turned qarma64 (keySchedule 4 w0 k0)) serial n c ++ drop n out)
+    (Refused Disagrees, out))
+    (Refused Room, out))
+    (Refused SealedSize, out))
+    (Refused Serial, out))
+    (Refused Length, out))
+    (Refused Length, out)
+
+-- Demand 2 for frames: "inputs inside the limits"
+pub record Within (serial : ℕ) (a : List ℕ) (n : ℕ) : Type 0 where
+  pub message : n ≤ 1024
+  pub label : length a ≤ 32
+  pub frame : serial ≤ 2 ^ 44 - 1
+
+-- Demand 2: "sealing some message of the stated length under that key, serial and label produces it": a message of n bytes whose sealed bytes are c
+pub record SealedFrom (s : Schedule) (serial : ℕ) (a : List ℕ) (n : ℕ) (c : List ℕ) : Type 0 where
+  pub message : List ℕ
+  pub bytes : Digits 8 message
+  pub size : length message ≡ n
+  pub sealed : sealedBytes s serial a message ≡ c

@@ -4,14 +4,21 @@ use cipher::Schedule;
 use refusals::Answer;
 use refusals::Refusal;
 ghost use mathlib.Core.Path.{_≡_};
-ghost use Prim.Native.Nat.{_+_, _*_, _^_, _<_, _≤_};
+ghost use Prim.Native.Nat.{_+_, _*_, _/_, _^_, _<_, _≤_};
 ghost use mathlib.Core.List.{_++_};
-ghost use lib.ListN.{length, drop};
+ghost use lib.ListN.{length, getD, take, drop};
 ghost use Rattle.words.specs.Digits.{word, laid};
-ghost use Rattle.cells.specs.Lists.{sum};
-ghost use Rattle.cipher.specs.Engine.{ScheduleBelow};
+ghost use Rattle.cells.specs.Lists.{sum, upto};
+ghost use Rattle.cipher.specs.Engine.{ScheduleBelow, turned};
 ghost use Rattle.frame.specs.Blocks.{blocks, filled, block, tweak, purpose, tagPurpose};
-ghost use Rattle.frame.specs.Frames.{enciphered, sealedBlock, labelSum, tagOf, sealedSize, sealedBytes, sealing};
+ghost use Rattle.frame.specs.Frames.{enciphered, sealedBlock, labelSum, tagOf, sealedSize, sealedBytes, sealing, openedBlock, fillRight, accepted, opening};
+ghost use Rattle.cells.specs.Qarma64.{qarma64};
+
+const MESSAGE_MAX: usize = 1024;
+
+const LABEL_MAX: usize = 32;
+
+const SERIAL_MAX: u64 = 0xFFFFFFFFFFF;
 
 // A part of 1 to 8 bytes as a word, filled if it is short.
 fn fill(part: &[u8]) -> u64
@@ -150,17 +157,93 @@ fn put_sealed(s: Schedule, serial: u64, label: &[u8], message: &[u8], out: &mut 
     words::write(&mut out[behind..behind + 8], 8, w);
 }
 
+// Block i of the sealed bytes of a message of n bytes, deciphered under the turned schedule.
+fn open_block(u: Schedule, serial: u64, n: usize, sealed: &[u8], i: usize) -> u64
+    requires { ⌜ (ScheduleBelow 4 u × (serial < 2 ^ 44)) × ((n ≤ 1024) × ((i < blocks n) × (i * 8 + 8 ≤ length (now sealed)))) ⌝ }
+    ensures { λ r. ⌜ r ≡ openedBlock u serial n (now (sealed .entry)) i ⌝ }
+{
+    let t = tweak_of(block_purpose(0, n, i), serial, i as u64);
+    let at = i * 8;
+    encipher(u, t, words::read(&sealed[at..at + 8], 8))
+}
+
+// Every block of the sealed bytes of a message of n bytes, deciphered.
+fn open_blocks(u: Schedule, serial: u64, n: usize, sealed: &[u8], plain: &mut [u64])
+    requires { ⌜ (ScheduleBelow 4 u × (serial < 2 ^ 44)) × ((n ≤ 1024) × ((blocks n * 8 ≤ length (now sealed)) × (blocks n ≤ length (now plain)))) ⌝ }
+    ensures { λ _. ⌜ take (blocks n) (now (plain .exit)) ≡ upto (blocks n) (openedBlock u serial n (now (sealed .entry))) ⌝ }
+{
+    let b = (n + 7) / 8;
+    let mut i = 0;
+    while i < b {
+        plain[i] = open_block(u, serial, n, sealed, i);
+        i += 1;
+    }
+}
+
+// The sum of some words.
+fn sum_words(list: &[u64]) -> u64
+    ensures { λ r. ⌜ r ≡ sum (length (now (list .entry))) (λ i. getD (now (list .entry)) i 0) ⌝ }
+{
+    let mut total = 0;
+    let mut i = 0;
+    while i < list.len() {
+        total ^= list[i];
+        i += 1;
+    }
+    total
+}
+
+// Writes the first n bytes of some words into the first bytes of out.
+fn put_message(n: usize, plain: &[u64], out: &mut [u8])
+    requires { ⌜ ((n ≤ 1024) × (blocks n ≤ length (now plain))) × (n ≤ length (now out)) ⌝ }
+    ensures { λ _. ⌜ now (out .exit) ≡ take n (laid (blocks n) (λ i. getD (now (plain .entry)) i 0)) ++ drop n (now (out .entry)) ⌝ }
+{
+    let whole = n / 8;
+    let at = whole * 8;
+    words::put(&plain[..whole], out);
+    if at == n {
+        return;
+    }
+    let w = plain[whole] >> (64 - (n - at) * 8);
+    words::write(&mut out[at..n], 8, w);
+}
+
+// Whether the last of the blocks of a message of n bytes is filled as it must be.
+fn fill_right(n: usize, plain: &[u64]) -> bool
+    requires { ⌜ blocks n ≤ length (now plain) ⌝ }
+    ensures { λ r. ⌜ r ≡ fillRight n (getD (now (plain .entry)) (n / 8) 0) ⌝ }
+{
+    let r = n % 8;
+    if r == 0 {
+        return true;
+    }
+    plain[n / 8] % (1u64 << (64 - r * 8)) == 1u64 << (63 - r * 8)
+}
+
+// Whether the tag agrees, and the fill: plain has the deciphered blocks.
+fn agrees(s: Schedule, serial: u64, label: &[u8], n: usize, sealed: &[u8], plain: &[u64]) -> bool
+    requires { ⌜ ((ScheduleBelow 4 s × (serial < 2 ^ 44)) × ((length (now label) ≤ 32) × (n ≤ 1024))) × ((length (now sealed) ≡ sealedSize n) × ((blocks n ≤ length (now plain)) × (take (blocks n) (now plain) ≡ upto (blocks n) (openedBlock (turned qarma64 s) serial n (now sealed))))) ⌝ }
+    ensures { λ r. ⌜ r ≡ accepted s serial (now (label .entry)) n (now (sealed .entry)) ⌝ }
+{
+    if !fill_right(n, plain) {
+        return false;
+    }
+    let b = (n + 7) / 8;
+    let at = b * 8;
+    tag(s, serial, label, n, sum_words(&plain[..b])) == words::read(&sealed[at..at + 8], 8)
+}
+
 // Seals a message under a key, a serial and a label.
 pub fn seal(w0: u64, k0: u64, serial: u64, label: &[u8], message: &[u8], out: &mut [u8]) -> Answer
     ensures { λ r. ⌜ (r, now (out .exit)) ≡ sealing w0 k0 serial (now (label .entry)) (now (message .entry)) (now (out .entry)) ⌝ }
 {
-    if 1024 < message.len() {
+    if MESSAGE_MAX < message.len() {
         return Answer::Refused(Refusal::Length);
     }
-    if 32 < label.len() {
+    if LABEL_MAX < label.len() {
         return Answer::Refused(Refusal::Length);
     }
-    if 0xFFFFFFFFFFF < serial {
+    if SERIAL_MAX < serial {
         return Answer::Refused(Refusal::Serial);
     }
     let size = (message.len() + 7) / 8 * 8 + 8;
@@ -169,4 +252,42 @@ pub fn seal(w0: u64, k0: u64, serial: u64, label: &[u8], message: &[u8], out: &m
     }
     put_sealed(Schedule::of_key(w0, k0), serial, label, message, out);
     Answer::Wrote { count: size as u32 }
+}
+
+// Opens the sealed bytes of a message of n bytes under a key, a serial and a label.
+pub fn open(
+    w0: u64,
+    k0: u64,
+    serial: u64,
+    n: usize,
+    label: &[u8],
+    sealed: &[u8],
+    out: &mut [u8],
+) -> Answer
+    ensures { λ r. ⌜ (r, now (out .exit)) ≡ opening w0 k0 serial n (now (label .entry)) (now (sealed .entry)) (now (out .entry)) ⌝ }
+{
+    if MESSAGE_MAX < n {
+        return Answer::Refused(Refusal::Length);
+    }
+    if LABEL_MAX < label.len() {
+        return Answer::Refused(Refusal::Length);
+    }
+    if SERIAL_MAX < serial {
+        return Answer::Refused(Refusal::Serial);
+    }
+    let size = (n + 7) / 8 * 8 + 8;
+    if sealed.len() != size {
+        return Answer::Refused(Refusal::SealedSize);
+    }
+    if out.len() < n {
+        return Answer::Refused(Refusal::Room);
+    }
+    let s = Schedule::of_key(w0, k0);
+    let mut plain = [0u64; 128];
+    open_blocks(s.turn(), serial, n, sealed, &mut plain);
+    if !agrees(s, serial, label, n, sealed, &plain) {
+        return Answer::Refused(Refusal::Disagrees);
+    }
+    put_message(n, &plain, out);
+    Answer::Wrote { count: n as u32 }
 }

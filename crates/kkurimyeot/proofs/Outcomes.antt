@@ -21,3 +21,7 @@ decipher-decided κs a x y v w p q = ((λ i. (p ∙ sym q) i .0), λ i. (tt, (tt
 pub seal-decided : Decided proofs.kk_seal.Kinds.ps proofs.kk_seal.Kinds.r proofs.kk_seal.Reads.Post
 seal-decided κs a x y v w p q =
     ((λ i. (p ∙ sym q) i .0), λ i. (tt, (tt, (tt, (tt, (tt, ((p ∙ sym q) i .1, tt)))))))
+
+pub open-decided : Decided proofs.kk_open.Kinds.ps proofs.kk_open.Kinds.r proofs.kk_open.Reads.Post
+open-decided κs a x y v w p q =
+    ((λ i. (p ∙ sym q) i .0), λ i. (tt, (tt, (tt, (tt, (tt, (tt, ((p ∙ sym q) i .1, tt))))))))

@@ -4,26 +4,11 @@ use cipher::Words;
 use refusals::Answer;
 use refusals::Refusal;
 ghost use mathlib.Core.Path.{_≡_};
-ghost use mathlib.Core.List.{_++_};
-ghost use Prim.Native.Nat.{_*_, _≤_};
-ghost use lib.ListN.{length, getD, drop};
-ghost use Rattle.words.specs.Digits.{laid};
+ghost use Prim.Native.Nat.{_≤_};
+ghost use lib.ListN.{length};
 ghost use Rattle.cipher.specs.Words.{keyWords, turnedWords, engineCall, encipherCall, decipherCall};
-ghost use Rattle.frame.specs.Frames.{sealing};
+ghost use Rattle.frame.specs.Frames.{sealing, opening};
 ghost use Rattle.kkurimyeot.specs.Calls.{given, blockGiven, fourWords, returning};
-
-// Writes each word into its own place of out, 8 bytes a word.
-fn put(list: &[u64], out: &mut [u8])
-    requires { ⌜ length (now list) * 8 ≤ length (now out) ⌝ }
-    ensures { λ _. ⌜ now (out .exit) ≡ laid (length (now (list .entry))) (λ i. getD (now (list .entry)) i 0) ++ drop (length (now (list .entry)) * 8) (now (out .entry)) ⌝ }
-{
-    let mut i = 0;
-    while i < list.len() {
-        let at = i * 8;
-        words::write(&mut out[at..at + 8], 8, list[i]);
-        i += 1;
-    }
-}
 
 // Words to the first bytes of out, or refusal 5.
 fn give(list: &[u64], out: &mut [u8]) -> Answer
@@ -34,7 +19,7 @@ fn give(list: &[u64], out: &mut [u8]) -> Answer
     if out.len() < size {
         return Answer::Refused(Refusal::Room);
     }
-    put(list, out);
+    words::put(list, out);
     Answer::Wrote { count: size as u32 }
 }
 
@@ -141,4 +126,20 @@ pub extern "C" fn kk_seal(
     ensures { λ r. ⌜ (r, now (out .exit)) ≡ returning (sealing w0 k0 serial (now (label .entry)) (now (message .entry)) (now (out .entry))) ⌝ }
 {
     refusals::returned(frame::seal(w0, k0, serial, label, message, out))
+}
+
+// The message of the stated length that the sealed bytes hold, under a key, a serial and a label.
+#[no_mangle]
+pub extern "C" fn kk_open(
+    w0: u64,
+    k0: u64,
+    serial: u64,
+    message_length: u64,
+    label: &[u8],
+    sealed: &[u8],
+    out: &mut [u8],
+) -> u64
+    ensures { λ r. ⌜ (r, now (out .exit)) ≡ returning (opening w0 k0 serial «message_length» (now (label .entry)) (now (sealed .entry)) (now (out .entry))) ⌝ }
+{
+    refusals::returned(frame::open(w0, k0, serial, message_length as usize, label, sealed, out))
 }

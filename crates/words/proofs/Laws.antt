@@ -1,8 +1,9 @@
 -- Laws of words and their digits, a turn of each loop, and the cases of `ifLe`.
-use mathlib.Core.Path.{_≡_, refl, sym, _∙_}
+use mathlib.Core.Bool.{Bool, true, false, false≢true}
+use mathlib.Core.Path.{_≡_, refl, sym, ap, ap₂, _∙_}
 use mathlib.Core.List.{List, [], _∷_, _++_, append-assoc, append-nil}
 use Prim.Native.Nat.{ℕ, zero, suc, _+_, _*_, _/_, _%_, _^_, _<_, _≤_, _-_}
-use native.Mathlib.Nat.{mul-zero, mul-suc, mul-one, mul-assoc, one-mul, add-comm, add-zero, zero-add, le-refl, le-trans, lt-of-lt-of-le, lt-of-le-of-lt, le-add-right, le-mul-of-pos-right, mul-le-mul-right, mod-lt, mod-eq-of-lt}
+use native.Mathlib.Nat.{mul-zero, mul-suc, mul-one, mul-assoc, one-mul, add-comm, add-zero, zero-add, le-refl, le-trans, lt-of-lt-of-le, lt-of-le-of-lt, le-add-right, le-mul-of-pos-right, add-suc, div-one, mul-le-mul-right, mod-lt, mod-eq-of-lt}
 use native.Mathlib.Numerals.{add-one, sub-one}
 use native.Mathlib.Omega.{arith}
 use mir.Syntax.{w8}
@@ -12,10 +13,10 @@ use borrow.Rule.Slice.PartMut.{putMid}
 use lib.Arith.{lt-one, digits-lt}
 use lib.Bits.{bitAnd, and-mask}
 use lib.Dec.{lit<}
-use lib.ListN.{length, getD, drop, set, length-append}
-use lib.Pow.{pow-pos, pow-mono, pow-add, shl-exact, shr-lt, split, high, low}
+use lib.ListN.{length, getD, take, drop, set, length-append, length-take}
+use lib.Pow.{pow-pos, pow-mono, pow-add, shl-exact, shr-lt, shr-shr, split, high, low}
 use lib.Seq.{drop-cons, lt-length-set, getD-set-same, drop-set-lt, take-at, drop-at, drop-drop}
-use Rattle.words.specs.Cases.{ifLe}
+use Rattle.words.specs.Cases.{ifLe, ifYes}
 use Rattle.words.specs.Digits.{wordFrom, word, digits, Digits, none, more, laid}
 
 -- ---- there and back
@@ -56,6 +57,11 @@ pub bytes : (s : List ℕ) → ((i : ℕ) → Fits w8 (getD s i 0)) → Digits 8
 bytes [] h = none
 bytes (x ∷ xs) h = more (h 0 .fits) (bytes xs (λ i. h (suc i)))
 
+-- the high digits, then the low ones
+pub digits-add : (m j k w : ℕ) → digits m (j + k) w ≡ digits m j (w / 2 ^ (m * k)) ++ digits m k w
+digits-add m j zero w = rw (add-zero, mul-zero, append-nil, div-one)
+digits-add m j (suc k) w = rw (add-suc, digits-add m j k (w / 2 ^ m), shr-shr, append-assoc, mul-suc, add-comm m (m * k))
+
 -- ---- size
 
 word-under : {m : ℕ} {ds : List ℕ} (a : ℕ) → Digits m ds → wordFrom m a ds < suc a * 2 ^ (m * length ds)
@@ -69,6 +75,20 @@ word-lt h = rw one-mul at (word-under 0 h)
 
 pub word-fits : {m : ℕ} {ds : List ℕ} → Digits m ds → m * length ds ≤ 64 → word m ds < 2 ^ 64
 word-fits h k = lt-of-lt-of-le (word-lt h) (pow-mono k)
+
+pub digits-take : {m : ℕ} {ds : List ℕ} (k : ℕ) → Digits m ds → Digits m (take k ds)
+digits-take zero h = none
+digits-take (suc k) none = none
+digits-take (suc k) (more hd h) = more hd (digits-take k h)
+
+pub digits-drop : {m : ℕ} {ds : List ℕ} (k : ℕ) → Digits m ds → Digits m (drop k ds)
+digits-drop zero h = h
+digits-drop (suc k) none = none
+digits-drop (suc k) (more hd h) = digits-drop k h
+
+-- 8 bytes from the middle of a list of bytes
+pub part-fits : {s : List ℕ} (a : ℕ) → Digits 8 s → word 8 (take (a + 8 - a) (drop a s)) < 2 ^ 64
+part-fits {s} a h = word-fits (digits-take (a + 8 - a) (digits-drop a h)) (simp length-take (omega arith))
 
 -- a word is at least what its first digits make
 pub grows : (m a : ℕ) (ds : List ℕ) → a ≤ wordFrom m a ds
@@ -104,6 +124,14 @@ pub length-laid : (n : ℕ) (f : ℕ → ℕ) → length (laid n f) ≡ n * 8
 length-laid zero f = refl
 length-laid (suc n) f = rw (length-append, length-laid n f, length-digits) (omega arith)
 
+pub laid-same : (n : ℕ) {f g : ℕ → ℕ} → ((i : ℕ) → i < n → f i ≡ g i) → laid n f ≡ laid n g
+laid-same zero h = refl
+laid-same (suc n) h = ap₂ _++_ (laid-same n (λ i l. h i (omega arith))) (ap (digits 8 8) (h n (omega arith)))
+
+pub laid-below : (n : ℕ) (f : ℕ → ℕ) → Digits 8 (laid n f)
+laid-below zero f = none
+laid-below (suc n) f = digits-append (laid-below n f) (digits-below 8 8 (f n))
+
 -- a part in the middle is replaced: b stands before it, and d is what was there
 pub mid-turn : (b d ys : List ℕ) (a k e : ℕ) → length b ≡ a → a + k ≡ e → putMid a k (b ++ drop a d) ys ≡ (b ++ ys) ++ drop e d
 mid-turn b d ys a k e h p = rw (take-at b (drop a d) a, drop-at b (drop a d) a, drop-drop, p, append-assoc)
@@ -122,3 +150,16 @@ le-case m n a b h = rw (le-leb m n h, ifLe)
 pub gt-case : {A : Type 0} (m n : ℕ) (a b : A) → n < m → b ≡ ifLe m n a b
 unfolding ifLe
 gt-case m n a b h = rw (lt-leb m n h, ifLe)
+
+pub yes-case : {A : Type 0} (t : Bool) (a b : A) → t ≡ true → a ≡ ifYes t a b
+unfolding ifYes
+yes-case t a b h = rw h
+
+pub no-case : {A : Type 0} (t : Bool) (a b : A) → t ≡ false → b ≡ ifYes t a b
+unfolding ifYes
+no-case t a b h = rw h
+
+pub both-yes : (t u : Bool) → ifYes t u false ≡ true → (t ≡ true) × (u ≡ true)
+unfolding ifYes
+both-yes true u h = (refl, h)
+both-yes false u h = absurd (false≢true h)

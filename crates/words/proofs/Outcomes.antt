@@ -8,3 +8,6 @@ read-decided κs a x y v w p q = (p ∙ sym q, refl)
 
 pub write-decided : Decided proofs.write.Kinds.ps proofs.write.Kinds.r proofs.write.Reads.Post
 write-decided κs a x y v w p q = (refl, λ i. ((p ∙ sym q) i, (tt, (tt, tt))))
+
+pub put-decided : Decided proofs.put.Kinds.ps proofs.put.Kinds.r proofs.put.Reads.Post
+put-decided κs a x y v w p q = (refl, λ i. (tt, ((p ∙ sym q) i, tt)))

@@ -5,10 +5,10 @@ use mathlib.Core.List.{_++_}
 use Prim.Native.Nat.{ℕ, _≤_, _-_, _*_, _+_}
 use native.Mathlib.Omega.{arith}
 use lib.ListN.{length, getD, take, drop, length-take, length-drop}
 use Rattle.words.specs.Digits.{digits, laid}
 use Rattle.words.proofs.Laws.{laid-turn}
-use Rattle.kkurimyeot.proofs.put.Statement.{statement}
-use Rattle.kkurimyeot.proofs.put.Tie as tie
+use Rattle.words.proofs.put.Statement.{statement}
+use Rattle.words.proofs.put.Tie as tie
 
 abbrev Inv-loop : tie.InvT-loop
 Inv-loop list out₀ i₀ out i = (i ≤ length list) × (length out ≡ length out₀) × (out ≡ laid i (λ k. getD list k 0) ++ drop (i * 8) out₀)

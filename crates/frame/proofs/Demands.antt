@@ -1,0 +1,174 @@
+-- Demand 2 for frames: "Opening accepts a frame exactly when sealing some message of the stated length under that key, serial and label produces it, and hands out that message."
+use mathlib.Core.Bool.{Bool, true, false, false≢true}
+use mathlib.Core.Path.{_≡_, refl, sym, ap, ap₂, subst, _∙_}
+use mathlib.Core.List.{List, _++_}
+use mathlib.Core.Logic.{_⊎_, inl, inr}
+use Prim.Native.Nat.{ℕ, zero, suc, _+_, _-_, _*_, _/_, _%_, _^_, _<_, _≤_}
+use native.Mathlib.Nat.{eq-zero-or-pos, mul-mod-left}
+use native.Mathlib.Omega.{arith}
+use borrow.Author.Tests.{eq-eqb, eqb-true, eqb-false, ne-eqb}
+use lib.Dec.{eqb}
+use lib.ListN.{length, take, drop}
+use lib.Pow.{pow-add, pow-pos, mod-mod-pow}
+use lib.Seq.{take-at}
+use Rattle.words.specs.Cases.{ifYes}
+use Rattle.words.specs.Digits.{word, Digits}
+use Rattle.words.proofs.Laws.{le-case, gt-case, yes-case, no-case}
+use Rattle.refusals.specs.declared.Answer.{Answer}
+use Rattle.refusals.specs.declared.Answer.the-variants.{Wrote, Refused}
+use Rattle.refusals.specs.declared.Refusal.the-variants.{SealedSize, Disagrees}
+use Rattle.cells.specs.Qarma64.{qarma64}
+use Rattle.cipher.specs.Engine.{ScheduleBelow, keySchedule, turned}
+use Rattle.cipher.specs.declared.Schedule.{Schedule}
+use Rattle.cipher.proofs.Demands.{key-below}
+use Rattle.frame.specs.Blocks.{blocks, part, tweak, purpose}
+use Rattle.frame.specs.Frames.{enciphered, sealedSize, sealedBytes, sealing, openedBlock, openedMessage, accepted, opening, SealedFrom, Within}
+use Rattle.frame.proofs.Fills.{fill-found}
+use Rattle.frame.proofs.Opening.{accepted-sealed, accepted-both, sealed-size, sealed-accepted, sealed-message}
+
+abbrev wrote : Answer → Bool
+wrote (Wrote n) = true
+wrote (Refused r) = false
+
+yes-or-no : (t : Bool) → (t ≡ true) ⊎ (t ≡ false)
+yes-or-no true = inl refl
+yes-or-no false = inr refl
+
+module _ (w0 k0 serial : ℕ) (a : List ℕ) where
+  -- the schedule of the key
+  abbrev s : Schedule
+  s = keySchedule 4 w0 k0
+
+  g : ScheduleBelow 4 s
+  g = key-below w0 k0
+
+  -- with enough room, sealing writes the sealed bytes
+  pub seals : (m out : List ℕ) → Within serial a (length m) → sealedSize (length m) ≤ length out
+      → sealing w0 k0 serial a m out ≡ (Wrote (sealedSize (length m)), sealedBytes s serial a m ++ drop (sealedSize (length m)) out)
+  unfolding sealing
+  seals m out h room =
+      sym
+      (le-case (sealedSize (length m)) (length out) _ _ room
+      ∙ le-case serial (2 ^ 44 - 1) _ _ (h .frame)
+      ∙ le-case (length a) 32 _ _ (h .label)
+      ∙ le-case (length m) 1024 _ _ (h .message))
+
+  module _ (n : ℕ) (c out : List ℕ) (h : Within serial a n) where
+    abbrev found : Answer × List ℕ
+    found = ifYes (accepted s serial a n c) (Wrote n, openedMessage (turned qarma64 s) serial n c ++ drop n out) (Refused Disagrees, out)
+
+    within : n ≤ length out → length c ≡ sealedSize n → opening w0 k0 serial n a c out ≡ found
+    unfolding opening
+    within room e =
+        sym
+        (le-case n (length out) found _ room
+        ∙ yes-case (eqb (length c) (sealedSize n)) _ _ (eq-eqb (length c) (sealedSize n) e)
+        ∙ le-case serial (2 ^ 44 - 1) _ _ (h .frame)
+        ∙ le-case (length a) 32 _ _ (h .label)
+        ∙ le-case n 1024 _ _ (h .message))
+
+    -- opening accepts what was sealed, and hands out the message
+    pub opens : n ≤ length out → (x : SealedFrom s serial a n c) → opening w0 k0 serial n a c out ≡ (Wrote n, x .message ++ drop n out)
+    opens room x =
+        within room (sealed-size g serial a x)
+        ∙ sym (yes-case (accepted s serial a n c) _ _ (sealed-accepted g serial a x))
+        ∙ ap (λ (m : List ℕ). (Wrote n, m ++ drop n out)) (sealed-message g serial a x)
+
+    -- and nothing else: other sealed bytes of the right length are refused, 6
+    pub refuses : n ≤ length out → Digits 8 c → length c ≡ sealedSize n → (SealedFrom s serial a n c → ⊥) → opening w0 k0 serial n a c out ≡ (Refused Disagrees, out)
+    refuses room hc e never =
+        within room e
+        ∙ elim (yes-or-no (accepted s serial a n c)) [
+          | inl y ↦ absurd (never (accepted-sealed g serial a n hc e y))
+          | inr y ↦ sym (no-case (accepted s serial a n c) _ (Refused Disagrees, out) y)
+        ]
+
+    refuses-size : (length c ≡ sealedSize n → ⊥) → opening w0 k0 serial n a c out ≡ (Refused SealedSize, out)
+    unfolding opening
+    refuses-size other =
+        sym
+        (no-case (eqb (length c) (sealedSize n)) _ (Refused SealedSize, out) (ne-eqb (length c) (sealedSize n) other)
+        ∙ le-case serial (2 ^ 44 - 1) _ _ (h .frame)
+        ∙ le-case (length a) 32 _ _ (h .label)
+        ∙ le-case n 1024 _ _ (h .message))
+
+    pub opens-only : n ≤ length out → Digits 8 c → (k : ℕ) (o : List ℕ) → opening w0 k0 serial n a c out ≡ (Wrote k, o) → SealedFrom s serial a n c
+    opens-only room hc k o opened =
+        let never : (r : Answer × List ℕ) → wrote (r .0) ≡ false → opening w0 k0 serial n a c out ≡ r → ⊥ =
+        λ r f e. false≢true (sym f ∙ ap (λ (x : Answer × List ℕ). wrote (x .0)) (sym e ∙ opened)) in
+        elim (yes-or-no (eqb (length c) (sealedSize n))) [
+          | inl y ↦
+              elim (yes-or-no (accepted s serial a n c)) [
+                | inl z ↦ accepted-sealed g serial a n hc (eqb-true _ _ y) z
+                | inr z ↦ absurd (never (Refused Disagrees, out) refl (within room (eqb-true _ _ y) ∙ sym (no-case (accepted s serial a n c) _ (Refused Disagrees, out) z)))
+              ]
+          | inr y ↦ absurd (never (Refused SealedSize, out) refl (refuses-size (eqb-false _ _ y)))
+        ]
+
+  -- "opening what was sealed gives the message back": sealed into one memory, opened into another
+  pub comes-back : (m out into : List ℕ) → Digits 8 m → Within serial a (length m) → sealedSize (length m) ≤ length out → length m ≤ length into
+      → opening w0 k0 serial (length m) a (take (sealedSize (length m)) (sealing w0 k0 serial a m out .1)) into ≡ (Wrote (length m), m ++ drop (length m) into)
+  comes-back m out into hm h room enough =
+      let x : SealedFrom s serial a (length m) (sealedBytes s serial a m) = record { message = m; bytes = hm; size = refl; sealed = refl } in
+      ap (λ (r : Answer × List ℕ). opening w0 k0 serial (length m) a (take (sealedSize (length m)) (r .1)) into) (seals m out h room)
+      ∙ ap (λ (c : List ℕ). opening w0 k0 serial (length m) a c into) (take-at (sealedBytes s serial a m) _ (sealedSize (length m)) (sealed-size g serial a x))
+      ∙ opens (length m) (sealedBytes s serial a m) into h enough x
+
+  -- one message at a length
+  pub one-message : {n : ℕ} {c : List ℕ} (x y : SealedFrom s serial a n c) → x .message ≡ y .message
+  one-message x y = sym (sealed-message g serial a x) ∙ sealed-message g serial a y
+
+-- ---- "no sealed text opens at two lengths"
+
+-- a one bit and zeros behind it stand in one place only
+one-mark : (w j k : ℕ) → w % 2 ^ suc j ≡ 2 ^ j → w % 2 ^ suc k ≡ 2 ^ k → j < k → ⊥
+one-mark w j k hj hk l =
+    let e : k - j + suc j ≡ suc k = omega arith in
+    let d : k - suc j + suc j ≡ k = omega arith in
+    let nought : 2 ^ j ≡ 0 =
+    sym hj
+    ∙ sym (mod-mod-pow w (k - j) (suc j))
+    ∙ ap (λ (x : ℕ). w % 2 ^ x % 2 ^ suc j) e
+    ∙ ap (λ (x : ℕ). x % 2 ^ suc j) (hk ∙ ap (λ (x : ℕ). 2 ^ x) (sym d) ∙ pow-add 2 (k - suc j) (suc j))
+    ∙ mul-mod-left (2 ^ (k - suc j)) (2 ^ suc j) in
+    absurd (omega (arith, pow-pos j, nought))
+
+one-fill : (w r q : ℕ) → r < 8 → q < 8 → w % 2 ^ (64 - r * 8) ≡ 2 ^ (63 - r * 8) → w % 2 ^ (64 - q * 8) ≡ 2 ^ (63 - q * 8) → r < q → ⊥
+one-fill w r q hr hq er eq l =
+    let a : 64 - r * 8 ≡ suc (63 - r * 8) = omega arith in
+    let b : 64 - q * 8 ≡ suc (63 - q * 8) = omega arith in
+    one-mark w (63 - q * 8) (63 - r * 8) (ap (λ (x : ℕ). w % 2 ^ x) (sym b) ∙ eq) (ap (λ (x : ℕ). w % 2 ^ x) (sym a) ∙ er) (omega arith)
+
+module _ {s : Schedule} (g : ScheduleBelow 4 s) (serial : ℕ) (a c : List ℕ) where
+  -- the last block at a length with a fill
+  last-fill : (n q : ℕ) → n / 8 ≡ q → 1 ≤ n % 8 → SealedFrom s serial a n c
+      → enciphered (turned qarma64 s) (tweak 1 serial q) (word 8 (part c q)) % 2 ^ (64 - n % 8 * 8) ≡ 2 ^ (63 - n % 8 * 8)
+  unfolding purpose
+  last-fill n q e h x =
+      let one : 1 ≡ purpose 0 n q = gt-case (q * 8 + 8) n 0 1 (omega arith) in
+      ap (λ (i : ℕ). enciphered (turned qarma64 s) (tweak i serial q) (word 8 (part c q)) % 2 ^ (64 - n % 8 * 8)) one
+      ∙ ap (λ (i : ℕ). openedBlock (turned qarma64 s) serial n c i % 2 ^ (64 - n % 8 * 8)) (sym e)
+      ∙ fill-found n (openedBlock (turned qarma64 s) serial n c (n / 8)) h (accepted-both g serial a n c (sealed-accepted g serial a x) .0)
+
+  -- at two lengths with a fill
+  pub one-length-filled : (n k : ℕ) → 1 ≤ n % 8 → 1 ≤ k % 8 → SealedFrom s serial a n c → SealedFrom s serial a k c → n ≡ k
+  one-length-filled n k hn hk x y =
+      let size : sealedSize n ≡ sealedSize k = sym (sealed-size g serial a x) ∙ sealed-size g serial a y in
+      let q : k / 8 ≡ n / 8 = omega arith in
+      let fn = last-fill n (n / 8) refl hn x in
+      let fk = last-fill k (n / 8) q hk y in
+      let w = enciphered (turned qarma64 s) (tweak 1 serial (n / 8)) (word 8 (part c (n / 8))) in
+      elim (eq-zero-or-pos (k % 8 - n % 8)) [
+        | inr e ↦ absurd (one-fill w (n % 8) (k % 8) (omega arith) (omega arith) fn fk (omega arith))
+        | inl e ↦
+            elim (eq-zero-or-pos (n % 8 - k % 8)) [
+              | inr d ↦ absurd (one-fill w (k % 8) (n % 8) (omega arith) (omega arith) fk fn (omega arith))
+              | inl d ↦ omega arith
+            ]
+      ]
+
+  -- and at two without
+  pub one-length-whole : (n k : ℕ) → n % 8 ≡ 0 → k % 8 ≡ 0 → SealedFrom s serial a n c → SealedFrom s serial a k c → n ≡ k
+  one-length-whole n k hn hk x y =
+      let size : sealedSize n ≡ sealedSize k = sym (sealed-size g serial a x) ∙ sealed-size g serial a y in
+      omega arith
