@@ -18,7 +18,7 @@ endif
 RUST = $(RUSTC) --edition 2021 -C opt-level=3 -C codegen-units=1
 LIBRARY = -L native=$(@D) -l static=kkurimyeot
 
-.PHONY: help run test bench setup clean always
+.PHONY: help run example test bench setup clean always
 .NOTPARALLEL:
 .SECONDARY:
 
@@ -29,10 +29,14 @@ run: ## prove the vectors program and run it
 	rt check vectors
 	tools/run vectors
 
-test: setup build/unit build/compare build/calls ## test the library, then prove everything: the gate
+example: setup build/example ## print the worked example of docs/FORMAT.md
+	@$(EMULATOR) build/example
+
+test: setup build/unit build/compare build/calls build/example ## test the library, then prove everything: the gate
 	$(EMULATOR) build/unit
 	$(EMULATOR) build/compare
 	$(EMULATOR) build/calls
+	$(EMULATOR) build/example | tests/shown docs/FORMAT.md
 	rt fmt --check
 	rt ci
 
@@ -70,5 +74,5 @@ build/compare: build/libsecond.rlib
 build/unit: build/libkkurimyeot.a
 	$(RUST) --crate-name second --test $(LIBRARY) tests/second/lib.rs -o $@
 
-build/calls: build/libkkurimyeot.a
-	$(CC) -std=c99 -pedantic -Wall -Wextra -Werror -I include tests/calls.c $< -o $@
+build/calls build/example: build/libkkurimyeot.a
+	$(CC) -std=c99 -pedantic -Wall -Wextra -Werror -I include tests/$(@F).c $< -o $@

@@ -1,6 +1,6 @@
 /*
- * kkurimyeot.h - the QARMA-64 block engine for C, and frames sealed and opened
- * with it.
+ * kkurimyeot.h - the QARMA-64 block engine for C, frames sealed and opened with
+ * it, and frame lines read, written and opened.
  *
  * This header is the manual. Link with libkkurimyeot.a.
  *
@@ -33,10 +33,38 @@
  *   open      To open sealed bytes is to decipher them and to give the message if
  *             tag and fill agree.
  *   frame     A serial, a label and sealed bytes.
+ *   line      A frame as text: lowercase hexadecimal digits, ended by byte 0x0A.
+ *   place     The number of a byte in a line, from 0.
  *   refusal   The number that says why a call did nothing.
  *
  * The paper is Roberto Avanzi, "The QARMA Block Cipher Family". It chooses
  * box 1 and r = 7, and frames are sealed with these.
+ *
+ *
+ * Lines
+ *
+ * A line has two lowercase hexadecimal digits for each byte of these fields, then
+ * byte 0x0A, and nothing else. Numbers have their most significant digit first.
+ *
+ *   place         digits   field
+ *   0             2        version: 01
+ *   2             12       serial; its top digit is 0
+ *   14            2        label length l: 00 to 20, which is KK_LABEL_MAX
+ *   16            4        message length n: 0000 to 0400, which is KK_MESSAGE_MAX
+ *   20            2l       label
+ *   20 + 2l       2s       sealed bytes, s being KK_SEALED_BYTES(n)
+ *   20 + 2l + 2s           byte 0x0A
+ *
+ * Bytes of just this shape are a good line. No key enters into it: a good line may
+ * still not open.
+ *
+ * Other bytes are refused with KK_REFUSED_LINE and a place, which is kk_count() of
+ * the returned number: the smallest k such that the first k + 1 bytes begin no
+ * good line. For a good line cut short it is the count of its bytes. A byte after
+ * the 0x0A is refused at its place, so lines are handed in one at a time.
+ *
+ * docs/FORMAT.md has frames and lines for those who work without this library,
+ * with an example in bytes.
  *
  *
  * Numbers and lent memory
@@ -45,15 +73,15 @@
  * opened are passed as uint64_t. Each of them may have any value: one outside its
  * limits is refused, whatever its upper bits.
  *
- * A label, a message or sealed bytes are passed as a pointer and the number of
- * bytes there. All these bytes must be the caller's to read, even if they are too
- * many or too few and the call is refused. They are never written.
+ * A label, a message, sealed bytes or a line are passed as a pointer and the
+ * number of bytes there. All these bytes must be the caller's to read, even if
+ * they are too many or too few and the call is refused. They are never written.
  *
  * An answer is written to memory that the caller lends: a pointer `out` and the
  * number of bytes there, `out_length`. All `out_length` bytes must be the
- * caller's to write, and none of them may belong to the label, the message or the
- * sealed bytes. An answer made of words has 8 bytes for each, the most
- * significant first.
+ * caller's to write, and none of them may belong to the label, the message, the
+ * sealed bytes or the line. An answer made of words has 8 bytes for each, the
+ * most significant first.
  *
  * A call that succeeds writes the first bytes of the lent memory, as many as the
  * function says. Every byte past them stays as it was. A call that is refused
@@ -73,8 +101,8 @@
  *
  *   bits 63..56   the refusal, or 0 if the call succeeded
  *   bits 55..32   0
- *   bits 31..0    the number of bytes written; 0 if the call was refused. (With
- *                 KK_REFUSED_LINE, which no function here gives, the place.)
+ *   bits 31..0    the number of bytes written, if the call succeeded; the place,
+ *                 with KK_REFUSED_LINE; 0, with any other refusal
  *
  * Take it apart with kk_refusal() and kk_count(). If several refusals apply, the
  * first one in the function's list is given.
@@ -83,10 +111,11 @@
  * Not promised
  *
  * Nothing is promised about how long a call takes, nor that it takes equally
- * long for all keys, blocks, messages and sealed bytes. Copies of keys, blocks
- * and messages that a call leaves in registers or on the stack are not wiped; a
- * refused kk_open() too may leave some there. No call knows which serials were
- * used before: a frame opens as often as it is handed in.
+ * long for all keys, blocks, messages, sealed bytes and lines. Copies of keys,
+ * blocks and messages that a call leaves in registers or on the stack are not
+ * wiped; a refused kk_open() or kk_open_line() too may leave some there. No call
+ * knows which serials were used before: a frame opens as often as it is handed
+ * in.
  *
  *
  * Examples
@@ -131,6 +160,20 @@ extern "C" {
          / KK_BLOCK_BYTES * KK_BLOCK_BYTES                       \
      + KK_TAG_BYTES)
 
+/* The number of bytes of a line, its 0x0A among them, for lengths up to
+   KK_LABEL_MAX and KK_MESSAGE_MAX. A constant if the lengths are. */
+#define KK_LINE_BYTES(label_length, message_length)              \
+    (20 + 2 * ((size_t)(label_length)                            \
+               + KK_SEALED_BYTES(message_length)) + 1)
+
+/* Limits of the number of bytes of a line: KK_LINE_BYTES(0, 0) and
+   KK_LINE_BYTES(KK_LABEL_MAX, KK_MESSAGE_MAX). */
+#define KK_LINE_MIN 37
+#define KK_LINE_MAX 2149
+
+/* Bytes of the five words that kk_read_line() writes. */
+#define KK_READ_BYTES 40
+
 /* What kk_refusal() gives. */
 enum kk_refusals {
     KK_NOT_REFUSED = 0,
@@ -141,7 +184,7 @@ enum kk_refusals {
                                 length rounded up to 8 */
     KK_REFUSED_ROOM = 5,     /* lent memory shorter than the answer needs */
     KK_REFUSED_TAG = 6,      /* tag or fill disagrees */
-    KK_REFUSED_LINE = 7      /* not a frame line */
+    KK_REFUSED_LINE = 7      /* not a good line; kk_count() gives the place */
 };
 
 /* The refusal in a returned number: one of enum kk_refusals. */
@@ -278,6 +321,62 @@ uint64_t kk_open(uint64_t w0, uint64_t k0, uint64_t serial,
                  const uint8_t *KK_RESTRICT sealed, size_t sealed_length,
                  uint8_t *KK_RESTRICT out, size_t out_length);
 
+/*
+ * The fields of a line and their places. They are what the line says; that they
+ * were sealed so, only kk_open_line() can tell.
+ *
+ * Refusals, in this order:
+ *   KK_REFUSED_LINE if the bytes are not a good line, with the place;
+ *   KK_REFUSED_ROOM if out_length is below KK_READ_BYTES.
+ * Writes five words to the first KK_READ_BYTES bytes of out: the serial, the label
+ * length and the message length in bytes, the place of the label and the place of
+ * the sealed bytes. From its place on, each byte of a field has two digits.
+ */
+uint64_t kk_read_line(const uint8_t *KK_RESTRICT line, size_t line_length,
+                      uint8_t *KK_RESTRICT out, size_t out_length);
+
+/*
+ * The line of the message sealed under the key (w0, k0), a serial and a label: the
+ * sealed bytes are those of kk_seal(). It is a good line, and under that key it
+ * opens to that message.
+ *
+ * As with kk_seal(), never two messages with one serial under one key.
+ *
+ * Refusals, in this order:
+ *   KK_REFUSED_LENGTH if message_length is above KK_MESSAGE_MAX, or label_length
+ *                     above KK_LABEL_MAX;
+ *   KK_REFUSED_SERIAL if serial is above KK_SERIAL_MAX;
+ *   KK_REFUSED_ROOM   if out_length is below
+ *                     KK_LINE_BYTES(label_length, message_length), the whole line.
+ * Writes the line to the first KK_LINE_BYTES(label_length, message_length) bytes
+ * of out, at least 37 and at most 2149. The last of them is the 0x0A; no byte 0x00
+ * follows.
+ */
+uint64_t kk_write_line(uint64_t w0, uint64_t k0, uint64_t serial,
+                       const uint8_t *KK_RESTRICT label, size_t label_length,
+                       const uint8_t *KK_RESTRICT message, size_t message_length,
+                       uint8_t *KK_RESTRICT out, size_t out_length);
+
+/*
+ * The message that a line holds under the key (w0, k0): what kk_open() gives for
+ * the line's serial, message length, label and sealed bytes.
+ *
+ * With enough room, it accepts exactly the lines that kk_write_line() gives for
+ * some serial, label and message under that key, and it writes that message.
+ *
+ * Refusals, in this order:
+ *   KK_REFUSED_LINE if the bytes are not a good line, with the place;
+ *   KK_REFUSED_ROOM if out_length is below the line's message length;
+ *   KK_REFUSED_TAG  if tag or fill disagrees.
+ * KK_REFUSED_LENGTH, KK_REFUSED_SERIAL and KK_REFUSED_SEALED, which kk_open() can
+ * give, do not occur, since a good line is within the limits.
+ * Writes the message to the first bytes of out, as many as its length, at most
+ * 1024 and perhaps none, and writes no byte before it has accepted.
+ */
+uint64_t kk_open_line(uint64_t w0, uint64_t k0,
+                      const uint8_t *KK_RESTRICT line, size_t line_length,
+                      uint8_t *KK_RESTRICT out, size_t out_length);
+
 #ifdef KK_EXAMPLE
 /* Enciphers a block and deciphers it again. Gives 1 if the block came back. */
 static inline int kk_example(uint64_t w0, uint64_t k0,
@@ -298,18 +397,18 @@ static inline int kk_example(uint64_t w0, uint64_t k0,
     return kk_word(out) == block;
 }
 
-/* Seals a reading of up to 20 bytes, with the number of its lane as the label,
+/* Seals a reading of up to 24 bytes, with the number of its lane as the label,
    and gives the number of sealed bytes, or 0 if the reading is too long or no
    serial is left. */
 static inline uint32_t kk_seal_example(uint64_t w0, uint64_t k0,
                                        uint64_t *next_serial, uint8_t lane,
                                        const uint8_t *reading, size_t length,
-                                       uint8_t out[KK_SEALED_BYTES(20)])
+                                       uint8_t out[KK_SEALED_BYTES(24)])
 {
     uint64_t answer;
 
     answer = kk_seal(w0, k0, *next_serial, &lane, 1, reading, length,
-                     out, KK_SEALED_BYTES(20));
+                     out, KK_SEALED_BYTES(24));
     if (kk_refusal(answer) != KK_NOT_REFUSED) {
         return 0; /* nothing was written to out */
     }
@@ -323,17 +422,48 @@ static inline uint32_t kk_seal_example(uint64_t w0, uint64_t k0,
 static inline int kk_open_example(uint64_t w0, uint64_t k0,
                                   uint64_t serial, uint8_t lane, size_t length,
                                   const uint8_t *sealed, size_t sealed_length,
-                                  uint8_t out[20])
+                                  uint8_t out[24])
 {
     uint64_t answer;
 
     answer = kk_open(w0, k0, serial, length, &lane, 1, sealed, sealed_length,
-                     out, 20);
+                     out, 24);
     if (kk_refusal(answer) != KK_NOT_REFUSED) {
         return 0; /* nothing was written to out */
     }
     /* kk_count(answer) is length now. */
     return 1;
+}
+
+/* Writes the line of a reading of up to 24 bytes, with the number of its lane as
+   the label, and opens it again. Gives the number of bytes of the line if out has
+   the reading now, and 0 if the reading is too long or no serial is left. */
+static inline uint32_t kk_line_example(uint64_t w0, uint64_t k0,
+                                       uint64_t *next_serial, uint8_t lane,
+                                       const uint8_t *reading, size_t length,
+                                       uint8_t line[KK_LINE_BYTES(1, 24)],
+                                       uint8_t out[24])
+{
+    uint64_t answer;
+    uint32_t line_length;
+
+    answer = kk_write_line(w0, k0, *next_serial, &lane, 1, reading, length,
+                           line, KK_LINE_BYTES(1, 24));
+    if (kk_refusal(answer) != KK_NOT_REFUSED) {
+        return 0; /* nothing was written to line */
+    }
+    *next_serial += 1; /* never the same serial again */
+    line_length = kk_count(answer);
+
+    answer = kk_open_line(w0, k0, line, line_length, out, 24);
+    if (kk_refusal(answer) == KK_REFUSED_LINE) {
+        return 0; /* the line is bad at the place kk_count(answer) */
+    }
+    if (kk_refusal(answer) != KK_NOT_REFUSED) {
+        return 0; /* a good line, but nothing was written to out */
+    }
+    /* kk_count(answer) is length now. */
+    return line_length;
 }
 #endif
 

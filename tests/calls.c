@@ -45,11 +45,8 @@ static const uint8_t sealed_last[] = {
    message, may be the first bytes of this. */
 static const uint8_t long_bytes[KK_SEALED_BYTES(KK_MESSAGE_MAX + 1)];
 
-/* The memory lent to each call: more than any answer here needs. */
-static uint8_t out[KK_SCHEDULE_BYTES + 8];
-
-/* Lent where a message of one byte more than allowed would fit. All zeros. */
-static uint8_t long_out[KK_MESSAGE_MAX + 1];
+/* The memory lent to each call: more than any answer needs. */
+static uint8_t out[KK_LINE_MAX + 8];
 
 static unsigned checks;
 
@@ -112,12 +109,17 @@ static void wrote_bytes(uint64_t answer, const uint8_t *bytes, size_t length,
     check(untouched_from(length), what);
 }
 
-static void refused(uint64_t answer, unsigned refusal, const char *what)
+static void refused_at(uint64_t answer, unsigned refusal, size_t place, const char *what)
 {
     check(kk_refusal(answer) == refusal, what);
-    check(kk_count(answer) == 0, what);
-    check(answer == (uint64_t)refusal << 56, what);
+    check(kk_count(answer) == place, what);
+    check(answer == ((uint64_t)refusal << 56 | place), what);
     check(untouched_from(0), what);
+}
+
+static void refused(uint64_t answer, unsigned refusal, const char *what)
+{
+    refused_at(answer, refusal, 0, what);
 }
 
 /* kk_seal() under the key above. */
@@ -244,10 +246,7 @@ static void opens_not(void)
     o.message_length = KK_MESSAGE_MAX + 1;
     o.sealed = long_bytes;
     o.sealed_length = sizeof long_bytes;
-    o.out = long_out;
-    o.out_length = sizeof long_out;
     refused(opened(o), KK_REFUSED_LENGTH, "kk_open, long message");
-    check(memcmp(long_out, long_bytes, sizeof long_out) == 0, "kk_open, long message, lent memory");
     o = known;
     o.message_length = UINT64_MAX;
     refused(opened(o), KK_REFUSED_LENGTH, "kk_open, the greatest message length");
@@ -341,6 +340,361 @@ static void opens_at_last(void)
     wrote_text(opened(o), MESSAGE, "kk_open, all put right");
 }
 
+/* A line, or what is none, with room for a byte after the longest. */
+struct line {
+    uint8_t bytes[KK_LINE_MAX + 1];
+    size_t length;
+};
+
+/* Puts the digits of some bytes at the end of a line. */
+static void put_digits(struct line *line, const void *bytes, size_t length)
+{
+    static const char digits[] = "0123456789abcdef";
+    const uint8_t *byte = bytes;
+
+    for (; length > 0; length--, byte++) {
+        line->bytes[line->length++] = (uint8_t)digits[*byte >> 4];
+        line->bytes[line->length++] = (uint8_t)digits[*byte & 15];
+    }
+}
+
+/* Just this text. */
+static struct line text(const char *bytes)
+{
+    struct line line = { { 0 }, strlen(bytes) };
+
+    memcpy(line.bytes, bytes, line.length);
+    return line;
+}
+
+/* The line whose first digits, of version, serial and lengths, are these. */
+static struct line line_of(const char *head, const void *label, size_t label_length,
+                           const uint8_t *sealed_bytes, size_t sealed_length)
+{
+    struct line line = text(head);
+
+    put_digits(&line, label, label_length);
+    put_digits(&line, sealed_bytes, sealed_length);
+    line.bytes[line.length++] = '\n';
+    return line;
+}
+
+/* The line of the first of the frames above, with other first digits. */
+static struct line known_with(const char *head)
+{
+    return line_of(head, LABEL, strlen(LABEL), sealed, sizeof sealed);
+}
+
+/* The lines of the frames above. */
+static struct line known_line(void)
+{
+    return known_with("01" "000000000001" "06" "000b");
+}
+
+static struct line empty_line(void)
+{
+    return line_of("01" "000000000001" "00" "0000", NULL, 0, sealed_empty, sizeof sealed_empty);
+}
+
+static struct line last_line(void)
+{
+    return line_of("01" "0fffffffffff" "01" "0005", "\4", 1, sealed_last, sizeof sealed_last);
+}
+
+/* A line of as many bytes as can be: label and message are zeros. */
+static struct line longest_line(void)
+{
+    uint8_t bytes[KK_SEALED_BYTES(KK_MESSAGE_MAX)];
+
+    check(seal(SERIAL, long_bytes, KK_LABEL_MAX, long_bytes, KK_MESSAGE_MAX, bytes, sizeof bytes)
+              == sizeof bytes, "the longest frame");
+    return line_of("01" "000000000001" "20" "0400", long_bytes, KK_LABEL_MAX, bytes, sizeof bytes);
+}
+
+/* A line with another byte at a place. */
+static struct line changed(struct line line, size_t place, int byte)
+{
+    line.bytes[place] = (uint8_t)byte;
+    return line;
+}
+
+/* The first bytes of a line, so many. */
+static struct line cut(struct line line, size_t length)
+{
+    line.length = length;
+    return line;
+}
+
+/* A line and a byte after it. */
+static struct line longer(struct line line, int byte)
+{
+    line.bytes[line.length++] = (uint8_t)byte;
+    return line;
+}
+
+static uint64_t line_read(struct line line, size_t room)
+{
+    return kk_read_line(line.bytes, line.length, lend(), room);
+}
+
+/* kk_write_line() under the key above. */
+static uint64_t line_written(uint64_t serial, const void *label, size_t label_length,
+                             const void *message, size_t message_length,
+                             uint8_t *lent, size_t length)
+{
+    return kk_write_line(W0, K0, serial, label, label_length, message, message_length,
+                         lent, length);
+}
+
+/* kk_open_line() under the key above. */
+static uint64_t line_opened(struct line line, size_t room)
+{
+    return kk_open_line(W0, K0, line.bytes, line.length, lend(), room);
+}
+
+static void wrote_line(uint64_t answer, struct line line, const char *what)
+{
+    wrote_bytes(answer, line.bytes, line.length, what);
+}
+
+static void wrote_reading(uint64_t answer, uint64_t serial, uint64_t label_length,
+                          uint64_t message_length, uint64_t sealed_place, const char *what)
+{
+    check(kk_refusal(answer) == KK_NOT_REFUSED, what);
+    check(kk_count(answer) == KK_READ_BYTES, what);
+    check(answer == KK_READ_BYTES, what);
+    check(kk_word(out) == serial, what);
+    check(kk_word(out + KK_WORD_BYTES) == label_length, what);
+    check(kk_word(out + 2 * KK_WORD_BYTES) == message_length, what);
+    check(kk_word(out + 3 * KK_WORD_BYTES) == 20, what);
+    check(kk_word(out + 4 * KK_WORD_BYTES) == sealed_place, what);
+    check(untouched_from(KK_READ_BYTES), what);
+}
+
+static void writes_lines(void)
+{
+    const size_t label = strlen(LABEL), message = strlen(MESSAGE);
+    const struct line line = known_line();
+    uint64_t answer;
+
+    check(KK_LINE_BYTES(0, 0) == KK_LINE_MIN, "KK_LINE_BYTES, shortest");
+    check(KK_LINE_BYTES(0, 1) == 53, "KK_LINE_BYTES, a byte of message");
+    check(KK_LINE_BYTES(KK_LABEL_MAX, KK_MESSAGE_MAX) == KK_LINE_MAX, "KK_LINE_BYTES, longest");
+    check(KK_LINE_BYTES(label, message) == line.length, "KK_LINE_BYTES, known");
+
+    answer = line_written(SERIAL, LABEL, label, MESSAGE, message, lend(), sizeof out);
+    wrote_line(answer, line, "kk_write_line");
+    answer = line_written(SERIAL, LABEL, label, MESSAGE, message, lend(), line.length);
+    wrote_line(answer, line, "kk_write_line, exact room");
+    answer = line_written(KK_SERIAL_MAX, "\4", 1, "27.41", 5, lend(), sizeof out);
+    wrote_line(answer, last_line(), "kk_write_line, the greatest serial");
+    answer = line_written(SERIAL, long_bytes, KK_LABEL_MAX, long_bytes, KK_MESSAGE_MAX,
+                          lend(), KK_LINE_MAX);
+    wrote_line(answer, longest_line(), "kk_write_line, longest");
+
+    answer = line_written(KK_SERIAL_MAX + 1, LABEL, label, long_bytes, KK_MESSAGE_MAX + 1,
+                          lend(), 0);
+    refused(answer, KK_REFUSED_LENGTH, "kk_write_line, long message, bad serial and short");
+    answer = line_written(SERIAL, LABEL, label, long_bytes, KK_MESSAGE_MAX + 1,
+                          lend(), sizeof out);
+    refused(answer, KK_REFUSED_LENGTH, "kk_write_line, long message");
+    answer = line_written(SERIAL, long_bytes, KK_LABEL_MAX + 1, MESSAGE, message,
+                          lend(), sizeof out);
+    refused(answer, KK_REFUSED_LENGTH, "kk_write_line, long label");
+    answer = line_written(KK_SERIAL_MAX + 1, LABEL, label, MESSAGE, message, lend(), 0);
+    refused(answer, KK_REFUSED_SERIAL, "kk_write_line, bad serial and short");
+    answer = line_written(KK_SERIAL_MAX + 1, LABEL, label, MESSAGE, message, lend(), sizeof out);
+    refused(answer, KK_REFUSED_SERIAL, "kk_write_line, bad serial");
+    answer = line_written(SERIAL, LABEL, label, MESSAGE, message, lend(), line.length - 1);
+    refused(answer, KK_REFUSED_ROOM, "kk_write_line, short");
+    answer = line_written(SERIAL, LABEL, label, MESSAGE, message, lend(), sizeof sealed);
+    refused(answer, KK_REFUSED_ROOM, "kk_write_line, room for the sealed bytes alone");
+    answer = line_written(SERIAL, long_bytes, KK_LABEL_MAX, long_bytes, KK_MESSAGE_MAX,
+                          lend(), KK_LINE_MAX - 1);
+    refused(answer, KK_REFUSED_ROOM, "kk_write_line, longest and short");
+
+    /* No bytes at all, by null pointers. */
+    answer = line_written(SERIAL, NULL, 0, NULL, 0, lend(), sizeof out);
+    wrote_line(answer, empty_line(), "kk_write_line, null label and message");
+    lend();
+    answer = line_written(SERIAL, LABEL, label, MESSAGE, message, NULL, 0);
+    refused(answer, KK_REFUSED_ROOM, "kk_write_line, null out");
+    answer = line_written(SERIAL, NULL, 0, NULL, 0, NULL, 0);
+    refused(answer, KK_REFUSED_ROOM, "kk_write_line, all null");
+}
+
+static void reads_lines(void)
+{
+    const struct line line = known_line();
+
+    wrote_reading(line_read(line, sizeof out), SERIAL, 6, 11, 32, "kk_read_line");
+    wrote_reading(line_read(line, KK_READ_BYTES), SERIAL, 6, 11, 32, "kk_read_line, exact room");
+    wrote_reading(line_read(empty_line(), sizeof out), SERIAL, 0, 0, 20, "kk_read_line, shortest");
+    wrote_reading(line_read(longest_line(), sizeof out), SERIAL, KK_LABEL_MAX, KK_MESSAGE_MAX, 84,
+                  "kk_read_line, longest");
+    wrote_reading(line_read(last_line(), sizeof out), KK_SERIAL_MAX, 1, 5, 22,
+                  "kk_read_line, the greatest serial");
+    /* No key enters into it. */
+    wrote_reading(line_read(known_with("01" "0123456789ab" "06" "000c"), sizeof out),
+                  UINT64_C(0x0123456789ab), 6, 12, 32, "kk_read_line, a line that does not open");
+
+    refused(line_read(line, KK_READ_BYTES - 1), KK_REFUSED_ROOM, "kk_read_line, short");
+    lend();
+    refused(kk_read_line(line.bytes, line.length, NULL, 0), KK_REFUSED_ROOM,
+            "kk_read_line, null out");
+    refused_at(kk_read_line(NULL, 0, out, sizeof out), KK_REFUSED_LINE, 0,
+               "kk_read_line, null line");
+    refused_at(kk_read_line(NULL, 0, NULL, 0), KK_REFUSED_LINE, 0, "kk_read_line, all null");
+}
+
+static void opens_lines(void)
+{
+    const struct line line = known_line(), empty = empty_line();
+
+    wrote_text(line_opened(line, sizeof out), MESSAGE, "kk_open_line");
+    wrote_text(line_opened(line, strlen(MESSAGE)), MESSAGE, "kk_open_line, exact room");
+    wrote_text(line_opened(empty, sizeof out), "", "kk_open_line, shortest");
+    wrote_bytes(line_opened(longest_line(), KK_MESSAGE_MAX), long_bytes, KK_MESSAGE_MAX,
+                "kk_open_line, longest");
+    wrote_text(line_opened(last_line(), sizeof out), "27.41", "kk_open_line, the greatest serial");
+
+    refused(line_opened(line, strlen(MESSAGE) - 1), KK_REFUSED_ROOM, "kk_open_line, short");
+
+    refused(line_opened(changed(line, line.length - 2, '2'), sizeof out), KK_REFUSED_TAG,
+            "kk_open_line, changed tag");
+    refused(line_opened(changed(line, 32, '6'), sizeof out), KK_REFUSED_TAG,
+            "kk_open_line, changed block");
+    refused(line_opened(changed(line, 20, '7'), sizeof out), KK_REFUSED_TAG,
+            "kk_open_line, changed label");
+    refused(line_opened(known_with("01" "000000000002" "06" "000b"), sizeof out), KK_REFUSED_TAG,
+            "kk_open_line, another serial");
+    refused(line_opened(known_with("01" "000000000001" "06" "000a"), sizeof out), KK_REFUSED_TAG,
+            "kk_open_line, length of a byte less");
+    refused(line_opened(known_with("01" "000000000001" "06" "000c"), sizeof out), KK_REFUSED_TAG,
+            "kk_open_line, length of a byte more");
+    refused(line_opened(known_with("01" "000000000001" "06" "0010"), sizeof out), KK_REFUSED_TAG,
+            "kk_open_line, length of whole blocks");
+    refused(kk_open_line(W0 ^ 1, K0, line.bytes, line.length, lend(), sizeof out), KK_REFUSED_TAG,
+            "kk_open_line, another outer word");
+    refused(kk_open_line(W0, K0 ^ 1, line.bytes, line.length, lend(), sizeof out), KK_REFUSED_TAG,
+            "kk_open_line, another core word");
+
+    /* No bytes at all, by null pointers. */
+    lend();
+    wrote_text(kk_open_line(W0, K0, empty.bytes, empty.length, NULL, 0), "",
+               "kk_open_line, no message and null out");
+    refused(kk_open_line(W0, K0, line.bytes, line.length, NULL, 0), KK_REFUSED_ROOM,
+            "kk_open_line, null out");
+    refused_at(kk_open_line(W0, K0, NULL, 0, out, sizeof out), KK_REFUSED_LINE, 0,
+               "kk_open_line, null line");
+    refused_at(kk_open_line(W0, K0, NULL, 0, NULL, 0), KK_REFUSED_LINE, 0,
+               "kk_open_line, all null");
+}
+
+/* The order of the refusals of the line calls: all is bad, and is put right from the first on. */
+static void opens_lines_at_last(void)
+{
+    const struct line line = known_line(), bad = changed(line, 32, '6');
+    const size_t message = strlen(MESSAGE);
+
+    refused_at(line_read(longer(line, '\n'), 0), KK_REFUSED_LINE, line.length,
+               "kk_read_line, all bad");
+    refused(line_read(line, 0), KK_REFUSED_ROOM, "kk_read_line, room bad");
+    wrote_reading(line_read(line, KK_READ_BYTES), SERIAL, 6, 11, 32,
+                  "kk_read_line, all put right");
+
+    refused_at(line_opened(longer(bad, '\n'), message - 1), KK_REFUSED_LINE, line.length,
+               "kk_open_line, all bad");
+    refused(line_opened(bad, message - 1), KK_REFUSED_ROOM, "kk_open_line, room and tag bad");
+    refused(line_opened(bad, message), KK_REFUSED_TAG, "kk_open_line, tag bad");
+    wrote_text(line_opened(line, message), MESSAGE, "kk_open_line, all put right");
+}
+
+/* Refusal 7 and its place, from reading and opening alike, whatever the room. */
+static void no_line(struct line line, size_t place, const char *what)
+{
+    refused_at(line_read(line, sizeof out), KK_REFUSED_LINE, place, what);
+    refused_at(line_read(line, 0), KK_REFUSED_LINE, place, what);
+    refused_at(line_opened(line, sizeof out), KK_REFUSED_LINE, place, what);
+    refused_at(line_opened(line, 0), KK_REFUSED_LINE, place, what);
+}
+
+/* The first digits of a line that are refused, and the longest line and a byte more. */
+static void no_lines(void)
+{
+    no_line(text(""), 0, "no bytes");
+    no_line(text("\n"), 0, "an empty line");
+    no_line(text("01\n"), 2, "a version alone");
+    no_line(text("0x01"), 1, "0x01");
+    no_line(text(" 01"), 0, "a blank first");
+
+    no_line(known_with("00" "000000000001" "06" "000b"), 1, "version 00");
+    no_line(known_with("02" "000000000001" "06" "000b"), 1, "version 02");
+    no_line(known_with("11" "000000000001" "06" "000b"), 0, "version 11");
+    no_line(known_with("01" "100000000001" "06" "000b"), 2, "serial's top digit 1");
+    no_line(known_with("01" "f00000000001" "06" "000b"), 2, "serial's top digit f");
+
+    no_line(known_with("01" "000000000001" "21" "000b"), 15, "label length 21");
+    no_line(known_with("01" "000000000001" "2f" "000b"), 15, "label length 2f");
+    no_line(known_with("01" "000000000001" "30" "000b"), 14, "label length 30");
+    no_line(known_with("01" "000000000001" "05" "000b"), 78, "label length of a byte less");
+    no_line(known_with("01" "000000000001" "07" "000b"), 80, "label length of a byte more");
+
+    no_line(known_with("01" "000000000001" "06" "0401"), 19, "message length 0401");
+    no_line(known_with("01" "000000000001" "06" "0410"), 18, "message length 0410");
+    no_line(known_with("01" "000000000001" "06" "0500"), 17, "message length 0500");
+    no_line(known_with("01" "000000000001" "06" "1000"), 16, "message length 1000");
+    no_line(known_with("01" "000000000001" "06" "0008"), 64, "message length of a block less");
+    no_line(known_with("01" "000000000001" "06" "0011"), 80, "message length of a block more");
+
+    no_line(longer(longest_line(), '\n'), KK_LINE_MAX, "a byte after the longest line");
+    no_line(cut(longest_line(), KK_LINE_MAX - 1), KK_LINE_MAX - 1, "the longest line cut");
+}
+
+/* Refusal 7 at every place of a line. */
+static void no_line_anywhere(void)
+{
+    /* The bytes next to '0' to '9' and 'a' to 'f', the capitals, and others, with 00 the last. */
+    static const char others[] = "/:`g@ABCDEFG \r\t\200\377";
+    const struct line line = known_line();
+    const size_t end = line.length - 1;
+    size_t place, i;
+
+    for (place = 0; place <= end; place++) {
+        no_line(cut(line, place), place, "a line cut short");
+        for (i = 0; i < sizeof others; i++) {
+            no_line(changed(line, place, others[i]), place, "no digit");
+        }
+        if (place < end) {
+            no_line(changed(line, place, '\n'), place, "an end too early");
+        }
+    }
+    no_line(changed(line, end, '0'), end, "a digit for the end");
+    no_line(longer(changed(line, end, '\r'), '\n'), end, "byte 0D before the end");
+
+    no_line(longer(line, '\n'), line.length, "an end after the end");
+    no_line(longer(line, '0'), line.length, "a digit after the end");
+    no_line(longer(line, 0), line.length, "byte 00 after the end");
+}
+
+/* A line with one bit of any of its bytes changed opens no more. */
+static void no_line_damaged(void)
+{
+    const struct line line = known_line();
+    uint64_t answer;
+    size_t place;
+    int bit;
+
+    for (place = 0; place < line.length; place++) {
+        for (bit = 1; bit < 256; bit *= 2) {
+            answer = line_opened(changed(line, place, line.bytes[place] ^ bit), sizeof out);
+            check(kk_refusal(answer) == KK_REFUSED_LINE || answer == (uint64_t)KK_REFUSED_TAG << 56,
+                  "a damaged line");
+            check(untouched_from(0), "a damaged line, nothing changed");
+        }
+    }
+}
+
 /* The header's example of sealing: the last serial is used once and no more. */
 static void seals_by_example(void)
 {
@@ -359,7 +713,7 @@ static void seals_by_example(void)
 static void opens_by_example(void)
 {
     static const uint8_t reading[20] = "touch 27.41, lane 4";
-    uint8_t frame[KK_SEALED_BYTES(20)];
+    uint8_t frame[KK_SEALED_BYTES(24)];
     uint64_t next = SERIAL;
     uint32_t length;
     size_t i;
@@ -380,6 +734,32 @@ static void opens_by_example(void)
         frame[i] ^= 1;
     }
     check(untouched_from(0), "no reading opened, nothing changed");
+}
+
+/* The header's example of lines. */
+static void lines_by_example(void)
+{
+    static const uint8_t reading[] = "27.41, and 24 bytes of it";
+    const struct line last = last_line();
+    uint8_t line[KK_LINE_BYTES(1, 24)];
+    uint64_t next = KK_SERIAL_MAX;
+    uint32_t length;
+
+    length = kk_line_example(W0, K0, &next, 4, reading, 5, line, lend());
+    wrote_bytes(5, reading, 5, "the header's example of lines");
+    check(length == last.length && memcmp(line, last.bytes, length) == 0, "the line of a reading");
+    check(next == KK_SERIAL_MAX + 1, "the last serial is used");
+    lend();
+    check(kk_line_example(W0, K0, &next, 4, reading, 5, line, out) == 0, "no serial left");
+    check(next == KK_SERIAL_MAX + 1 && untouched_from(0), "no serial left, nothing changed");
+
+    next = SERIAL;
+    length = kk_line_example(W0, K0, &next, 4, reading, 24, line, lend());
+    wrote_bytes(24, reading, 24, "the header's example of lines, longest");
+    check(length == sizeof line && next == SERIAL + 1, "a line of the longest reading");
+    lend();
+    check(kk_line_example(W0, K0, &next, 4, reading, 25, line, out) == 0, "a reading too long");
+    check(next == SERIAL + 1 && untouched_from(0), "a reading too long, nothing changed");
 }
 
 int main(void)
@@ -429,9 +809,18 @@ int main(void)
     opens_not();
     opens_at_last();
 
+    writes_lines();
+    reads_lines();
+    opens_lines();
+    opens_lines_at_last();
+    no_lines();
+    no_line_anywhere();
+    no_line_damaged();
+
     check(kk_example(W0, K0, TWEAK, PLAIN), "the header's example");
     seals_by_example();
     opens_by_example();
+    lines_by_example();
 
     printf("c caller: %u checks passed\n", checks);
     return 0;

@@ -123,7 +123,7 @@ impl Call for OpenCall<'_> {
 }
 
 /// The outcome of what the second program answered and wrote.
-fn outcome(answer: Result<usize, Refusal>, mut out: Vec<u8>) -> Outcome {
+pub fn outcome(answer: Result<usize, Refusal>, mut out: Vec<u8>) -> Outcome {
     match answer {
         Ok(written) => {
             out.truncate(written);

@@ -2,6 +2,7 @@
 
 mod blocks;
 mod frames;
+mod lines;
 mod opening;
 mod sealing;
 
@@ -13,5 +14,6 @@ fn main() -> ExitCode {
     blocks::compare(&mut tally);
     sealing::compare(&mut tally);
     opening::compare(&mut tally);
+    lines::compare(&mut tally);
     tally.finish()
 }

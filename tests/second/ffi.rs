@@ -61,6 +61,31 @@ mod c {
             out: *mut u8,
             out_length: usize,
         ) -> u64;
+        pub fn kk_read_line(
+            line: *const u8,
+            line_length: usize,
+            out: *mut u8,
+            out_length: usize,
+        ) -> u64;
+        pub fn kk_write_line(
+            w0: u64,
+            k0: u64,
+            serial: u64,
+            label: *const u8,
+            label_length: usize,
+            message: *const u8,
+            message_length: usize,
+            out: *mut u8,
+            out_length: usize,
+        ) -> u64;
+        pub fn kk_open_line(
+            w0: u64,
+            k0: u64,
+            line: *const u8,
+            line_length: usize,
+            out: *mut u8,
+            out_length: usize,
+        ) -> u64;
     }
 }
 
@@ -169,4 +194,33 @@ pub fn open(
             room,
         )
     }
+}
+
+pub fn read_line(line: &[u8], out: &mut [u8]) -> u64 {
+    unsafe { c::kk_read_line(line.as_ptr(), line.len(), out.as_mut_ptr(), out.len()) }
+}
+
+pub fn write_line(key: Key, serial: u64, label: &[u8], message: &[u8], out: &mut [u8]) -> u64 {
+    let (label, label_length) = (label.as_ptr(), label.len());
+    let (message, message_length) = (message.as_ptr(), message.len());
+    let (place, room) = (out.as_mut_ptr(), out.len());
+    unsafe {
+        c::kk_write_line(
+            key.w0,
+            key.k0,
+            serial,
+            label,
+            label_length,
+            message,
+            message_length,
+            place,
+            room,
+        )
+    }
+}
+
+pub fn open_line(key: Key, line: &[u8], out: &mut [u8]) -> u64 {
+    let (line, line_length) = (line.as_ptr(), line.len());
+    let (place, room) = (out.as_mut_ptr(), out.len());
+    unsafe { c::kk_open_line(key.w0, key.k0, line, line_length, place, room) }
 }

@@ -60,12 +60,12 @@ pub fn blocks(message: &[u8]) -> impl Iterator<Item = u64> + '_ {
 }
 
 /// How many blocks there are in so many bytes.
-fn block_count(length: usize) -> usize {
+const fn block_count(length: usize) -> usize {
     (length + BLOCK - 1) / BLOCK
 }
 
 /// How many sealed bytes a message of this length has.
-pub fn sealed_length(message_length: usize) -> usize {
+pub const fn sealed_length(message_length: usize) -> usize {
     BLOCK * block_count(message_length) + TAG
 }
 

@@ -37,6 +37,14 @@ impl Outcome {
             written: Vec::new(),
         }
     }
+
+    /// The bytes handed in are no frame line: refusal 7 and its place.
+    pub fn not_a_line(place: usize) -> Self {
+        Self {
+            answer: 7 << 56 | place as u64,
+            written: Vec::new(),
+        }
+    }
 }
 
 /// A call of the library with all that it is given but the lent memory.

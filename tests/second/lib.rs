@@ -7,6 +7,8 @@ use std::ptr;
 pub mod ffi;
 pub mod frame;
 pub mod harness;
+pub mod line;
+pub mod listing;
 pub mod qarma;
 pub mod rng;
 

@@ -16,7 +16,7 @@ use Rattle.words.specs.Digits.{word, Digits}
 use Rattle.words.proofs.Laws.{le-case, gt-case, yes-case, no-case}
 use Rattle.refusals.specs.declared.Answer.{Answer}
 use Rattle.refusals.specs.declared.Answer.the-variants.{Wrote, Refused}
-use Rattle.refusals.specs.declared.Refusal.the-variants.{SealedSize, Disagrees}
+use Rattle.refusals.specs.declared.Refusal.the-variants.{SealedSize, Room, Disagrees}
 use Rattle.cells.specs.Qarma64.{qarma64}
 use Rattle.cipher.specs.Engine.{ScheduleBelow, keySchedule, turned}
 use Rattle.cipher.specs.declared.Schedule.{Schedule}
@@ -88,6 +88,17 @@ module _ (w0 k0 serial : ℕ) (a : List ℕ) where
     refuses-size other =
         sym
         (no-case (eqb (length c) (sealedSize n)) _ (Refused SealedSize, out) (ne-eqb (length c) (sealedSize n) other)
+        ∙ le-case serial (2 ^ 44 - 1) _ _ (h .frame)
+        ∙ le-case (length a) 32 _ _ (h .label)
+        ∙ le-case n 1024 _ _ (h .message))
+
+    -- without the room, refusal 5
+    pub no-room : length c ≡ sealedSize n → length out < n → opening w0 k0 serial n a c out ≡ (Refused Room, out)
+    unfolding opening
+    no-room e small =
+        sym
+        (gt-case n (length out) _ (Refused Room, out) small
+        ∙ yes-case (eqb (length c) (sealedSize n)) _ _ (eq-eqb (length c) (sealedSize n) e)
         ∙ le-case serial (2 ^ 44 - 1) _ _ (h .frame)
         ∙ le-case (length a) 32 _ _ (h .label)
         ∙ le-case n 1024 _ _ (h .message))

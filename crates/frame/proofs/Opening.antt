@@ -13,7 +13,7 @@ use lib.ListN.{length, take, drop, length-append, length-take, length-drop}
 use lib.Seq.{take-all, length-take-le}
 use Rattle.words.specs.Cases.{ifYes}
 use Rattle.words.specs.Digits.{_⊕_, word, digits, Digits, laid}
-use Rattle.words.proofs.Laws.{word-digits, word-fits, length-digits, length-laid, laid-same, laid-below, digits-take, digits-drop, yes-case, both-yes}
+use Rattle.words.proofs.Laws.{word-digits, word-fits, length-digits, length-laid, laid-same, laid-below, digits-append, digits-below, digits-take, digits-drop, yes-case, both-yes}
 use Rattle.cells.specs.Lists.{sum}
 use Rattle.cells.specs.Qarma64.{qarma64}
 use Rattle.cells.proofs.Lawful.{lawful64}
@@ -40,6 +40,10 @@ part-first n f i h =
     part-take n i (laid (blocks n) f)
     ∙ ap (λ (l : List ℕ). take (n - i * 8) (part l i)) (sym (append-nil (laid (blocks n) f)))
     ∙ ap (take (n - i * 8)) (part-laid (blocks n) f [] i h)
+
+pub sealed-below : (s : Schedule) (serial : ℕ) (a m : List ℕ) → Digits 8 (sealedBytes s serial a m)
+unfolding sealedBytes
+sealed-below s serial a m = digits-append (laid-below (blocks (length m)) _) (digits-below 8 8 _)
 
 pub sealed-length : (s : Schedule) (serial : ℕ) (a m : List ℕ) → length (sealedBytes s serial a m) ≡ sealedSize (length m)
 unfolding sealedBytes

@@ -1,7 +1,15 @@
 -- One outcome: each public contract of `kkurimyeot` leaves one answer and one content of lent memory.
-use mathlib.Core.Path.{sym, _∙_}
+use mathlib.Core.Path.{_≡_, sym, ap, _∙_}
+use mathlib.Core.List.{List}
+use Prim.Native.Nat.{ℕ}
 use Rattle.words.proofs.Decided.{Decided}
+use Rattle.line.specs.declared.Reading.{Reading}
+use Rattle.line.proofs.Places.{reads-one}
+use Rattle.kkurimyeot.specs.Calls.{returning, readingGiven, GivesReading}
 use Rattle.kkurimyeot.proofs
+
+one-reading : {s out : List ℕ} {x y : ℕ × List ℕ} → GivesReading s out x → GivesReading s out y → x ≡ y
+one-reading {s} {out} p q = p .gives ∙ ap (λ (r : Reading). returning (readingGiven r out)) (reads-one s (p .answer) (q .answer) (p .reads) (q .reads)) ∙ sym (q .gives)
 
 pub schedule-decided : Decided proofs.kk_schedule.Kinds.ps proofs.kk_schedule.Kinds.r proofs.kk_schedule.Reads.Post
 schedule-decided κs a x y v w p q = ((λ i. (p ∙ sym q) i .0), λ i. (tt, (tt, ((p ∙ sym q) i .1, tt))))
@@ -25,3 +33,12 @@ seal-decided κs a x y v w p q =
 pub open-decided : Decided proofs.kk_open.Kinds.ps proofs.kk_open.Kinds.r proofs.kk_open.Reads.Post
 open-decided κs a x y v w p q =
     ((λ i. (p ∙ sym q) i .0), λ i. (tt, (tt, (tt, (tt, (tt, (tt, ((p ∙ sym q) i .1, tt))))))))
+
+pub read-line-decided : Decided proofs.kk_read_line.Kinds.ps proofs.kk_read_line.Kinds.r proofs.kk_read_line.Reads.Post
+read-line-decided κs a x y v w p q = let e = one-reading p q in ((λ i. e i .0), λ i. (tt, (e i .1, tt)))
+
+pub write-line-decided : Decided proofs.kk_write_line.Kinds.ps proofs.kk_write_line.Kinds.r proofs.kk_write_line.Reads.Post
+write-line-decided κs a x y v w p q = ((λ i. (p ∙ sym q) i .0), λ i. (tt, (tt, (tt, (tt, (tt, ((p ∙ sym q) i .1, tt)))))))
+
+pub open-line-decided : Decided proofs.kk_open_line.Kinds.ps proofs.kk_open_line.Kinds.r proofs.kk_open_line.Reads.Post
+open-line-decided κs a x y v w p q = ((λ i. (p ∙ sym q) i .0), λ i. (tt, (tt, (tt, ((p ∙ sym q) i .1, tt)))))

@@ -1,6 +1,7 @@
 // The calls of the C interface: numbers and byte slices in, one number out.
 use cipher::Block;
 use cipher::Words;
+use line::Reading;
 use refusals::Answer;
 use refusals::Refusal;
 ghost use mathlib.Core.Path.{_≡_};
@@ -8,7 +9,8 @@ ghost use Prim.Native.Nat.{_≤_};
 ghost use lib.ListN.{length};
 ghost use Rattle.cipher.specs.Words.{keyWords, turnedWords, engineCall, encipherCall, decipherCall};
 ghost use Rattle.frame.specs.Frames.{sealing, opening};
-ghost use Rattle.kkurimyeot.specs.Calls.{given, blockGiven, fourWords, returning};
+ghost use Rattle.line.specs.Calls.{writing, openingLine};
+ghost use Rattle.kkurimyeot.specs.Calls.{given, blockGiven, fourWords, returning, readingGiven, GivesReading};
 
 // Words to the first bytes of out, or refusal 5.
 fn give(list: &[u64], out: &mut [u8]) -> Answer
@@ -142,4 +144,60 @@ pub extern "C" fn kk_open(
     ensures { λ r. ⌜ (r, now (out .exit)) ≡ returning (opening w0 k0 serial «message_length» (now (label .entry)) (now (sealed .entry)) (now (out .entry))) ⌝ }
 {
     refusals::returned(frame::open(w0, k0, serial, message_length as usize, label, sealed, out))
+}
+
+// A reading of a line, through C.
+fn give_reading(r: Reading, out: &mut [u8]) -> u64
+    ensures { λ a. ⌜ (a, now (out .exit)) ≡ returning (readingGiven r (now (out .entry))) ⌝ }
+{
+    match r {
+        Reading::Fields {
+            serial,
+            label_length,
+            message_length,
+            label_place,
+            sealed_place,
+        } => {
+            let five = [
+                serial,
+                label_length as u64,
+                message_length as u64,
+                label_place as u64,
+                sealed_place as u64,
+            ];
+            refusals::returned(give(&five, out))
+        }
+        Reading::NotLine { place } => refusals::returned(Answer::Refused(Refusal::Line { place })),
+    }
+}
+
+// The fields of a frame line and their places: serial, label length, message length, the label's place, the sealed bytes' place.
+#[no_mangle]
+pub extern "C" fn kk_read_line(line: &[u8], out: &mut [u8]) -> u64
+    ensures { λ r. ⌜ GivesReading (now (line .entry)) (now (out .entry)) (r, now (out .exit)) ⌝ }
+{
+    give_reading(line::read(line), out)
+}
+
+// The frame line of a message under a key, a serial and a label.
+#[no_mangle]
+pub extern "C" fn kk_write_line(
+    w0: u64,
+    k0: u64,
+    serial: u64,
+    label: &[u8],
+    message: &[u8],
+    out: &mut [u8],
+) -> u64
+    ensures { λ r. ⌜ (r, now (out .exit)) ≡ returning (writing w0 k0 serial (now (label .entry)) (now (message .entry)) (now (out .entry))) ⌝ }
+{
+    refusals::returned(line::write(w0, k0, serial, label, message, out))
+}
+
+// The message that a frame line holds, under a key.
+#[no_mangle]
+pub extern "C" fn kk_open_line(w0: u64, k0: u64, line: &[u8], out: &mut [u8]) -> u64
+    ensures { λ r. ⌜ (r, now (out .exit)) ≡ returning (openingLine w0 k0 (now (line .entry)) (now (out .entry))) ⌝ }
+{
+    refusals::returned(line::open(w0, k0, line, out))
 }

@@ -1,0 +1,142 @@
+-- Demand 2 for a line: it opens exactly when writing some message under that key gives it. And what writing gives is a good line, whose fields are what went in.
+use Prim.Native.Nat.{ℕ, zero, suc, _+_, _-_, _*_, _^_, _≤_, _<_}
+use mathlib.Core.Bool.{Bool, true, false, false≢true}
+use mathlib.Core.Path.{_≡_, refl, sym, ap, ap₂, _∙_}
+use mathlib.Core.List.{List, [], _∷_, _++_, append-assoc}
+use mathlib.Core.Logic.{_⊎_, inl, inr}
+use native.Mathlib.Nat.{eq-zero-or-pos}
+use native.Mathlib.Omega.{arith}
+use lib.ListN.{length, drop, length-append}
+use Rattle.words.specs.Digits.{Digits, none, more}
+use Rattle.words.proofs.Laws.{le-case}
+use Rattle.refusals.specs.declared.Answer.{Answer}
+use Rattle.refusals.specs.declared.Answer.the-variants.{Wrote, Refused}
+use Rattle.refusals.specs.declared.Refusal.the-variants.{Line}
+use Rattle.cipher.specs.Engine.{keySchedule}
+use Rattle.cipher.proofs.Demands.{key-below}
+use Rattle.frame.specs.Frames.{sealedSize, sealedBytes, opening, SealedFrom, Within}
+use Rattle.frame.proofs.Opening.{sealed-length, sealed-below}
+use Rattle.frame.proofs.Demands.{opens, opens-only, no-room}
+use Rattle.line.specs.Line.{hexDigits, hex, Frame, Limits, LineOf, lineOf, GoodLine, Place, fieldsOf, Reads, fields, refused}
+use Rattle.line.specs.Reader.{numberAt, bytesAt, reading}
+use Rattle.line.specs.Calls.{frameOf, lineSize, lineGiven, writing, openingAs, openingLine, WrittenFrom}
+use Rattle.line.specs.declared.Reading.{Reading}
+use Rattle.line.specs.declared.Reading.the-variants.{Fields, NotLine}
+use Rattle.line.proofs.Written.{num-digits, length-hex, length-hex-digits, shown, line-shown}
+use Rattle.line.proofs.Places.{reads-reading, reading-reads}
+use Rattle.line.proofs.Writing.{line-length}
+use Rattle.line.proofs.Calls.{writes}
+
+-- the bytes whose digits stand behind xs
+bytes-hex : (xs ys : List ℕ) (p : ℕ) {l : List ℕ} → length xs ≡ p → Digits 8 l → bytesAt (xs ++ (hex l ++ ys)) p (length l) ≡ l
+unfolding hex
+bytes-hex xs ys p e none = refl
+bytes-hex xs ys p e (more {d = b} {ds = l} hb h) =
+    let here : xs ++ ((hexDigits 2 b ++ hex l) ++ ys) ≡ xs ++ (hexDigits 2 b ++ (hex l ++ ys)) = ap (λ (z : List ℕ). xs ++ z) (append-assoc (hexDigits 2 b) (hex l) ys) in
+    let there : xs ++ (hexDigits 2 b ++ (hex l ++ ys)) ≡ (xs ++ hexDigits 2 b) ++ (hex l ++ ys) = sym (append-assoc xs (hexDigits 2 b) (hex l ++ ys)) in
+    ap₂ _∷_ (ap (λ (z : List ℕ). numberAt z p 2) here ∙ num-digits xs (hex l ++ ys) p 2 b e hb)
+    (ap (λ (z : List ℕ). bytesAt z (p + 2) (length l)) (here ∙ there)
+    ∙ bytes-hex (xs ++ hexDigits 2 b) ys (p + 2) (length-append xs (hexDigits 2 b) ∙ ap₂ _+_ e (length-hex-digits 2 b)) h)
+
+module _ (f : Frame) (h : Limits f) where
+  head : List ℕ
+  head = 48 ∷ 49 ∷ 48 ∷ (hexDigits 11 (f .serial) ++ (hexDigits 2 (length (f .label)) ++ hexDigits 4 (f .message)))
+
+  head-length : length head ≡ 20
+  unfolding head
+  head-length = simp (length-append, length-hex-digits)
+
+  line-head : lineOf f ≡ head ++ (hex (f .label) ++ (hex (f .sealed) ++ (10 ∷ [])))
+  unfolding head shown
+  line-head = line-shown f (h .serial) ∙ simp append-assoc
+
+  label-is : bytesAt (lineOf f) 20 (length (f .label)) ≡ f .label
+  label-is = ap (λ (z : List ℕ). bytesAt z 20 (length (f .label))) line-head ∙ bytes-hex head (hex (f .sealed) ++ (10 ∷ [])) 20 head-length (h .label-bytes)
+
+  sealed-is : bytesAt (lineOf f) (20 + 2 * length (f .label)) (sealedSize (f .message)) ≡ f .sealed
+  sealed-is =
+      ap₂ (λ (z : List ℕ) (n : ℕ). bytesAt z (20 + 2 * length (f .label)) n) (line-head ∙ sym (append-assoc head (hex (f .label)) (hex (f .sealed) ++ (10 ∷ [])))) (sym (h .sealed))
+      ∙ bytes-hex (head ++ hex (f .label)) (10 ∷ []) (20 + 2 * length (f .label)) (length-append head (hex (f .label)) ∙ ap₂ _+_ head-length (length-hex (f .label))) (h .sealed-bytes)
+
+-- opening a good line passes on what opening its frame gives
+pub passes-on : (w0 k0 : ℕ) (s out : List ℕ) (f : Frame) → LineOf s f → openingLine w0 k0 s out ≡ opening w0 k0 (f .serial) (f .message) (f .label) (f .sealed) out
+unfolding openingLine
+passes-on w0 k0 s out f l =
+    ap (λ (r : Reading). openingAs w0 k0 s r out) (sym (reads-reading s (fieldsOf f) (fields f l)))
+    ∙ ap₂ (λ (a c : List ℕ). opening w0 k0 (f .serial) (f .message) a c out)
+    (ap (λ (z : List ℕ). bytesAt z 20 (length (f .label))) (l .line) ∙ label-is f (l .limits))
+    (ap (λ (z : List ℕ). bytesAt z (20 + 2 * length (f .label)) (sealedSize (f .message))) (l .line) ∙ sealed-is f (l .limits))
+
+-- and another line is refused, 7, with its place
+pub not-a-line : (w0 k0 : ℕ) (s out : List ℕ) (k : ℕ) → (GoodLine s → ⊥) → Place s k → openingLine w0 k0 s out ≡ (Refused (Line k), out)
+unfolding openingLine
+not-a-line w0 k0 s out k n p = ap (λ (r : Reading). openingAs w0 k0 s r out) (sym (reads-reading s (NotLine k) (refused k n p)))
+
+abbrev wrote : Answer → Bool
+wrote (Wrote n) = true
+wrote (Refused r) = false
+
+module _ {w0 k0 : ℕ} {s : List ℕ} where
+  -- what is written is a good line, whose fields are what went in
+  abbrev frameFrom : WrittenFrom w0 k0 s → Frame
+  frameFrom x = frameOf (x .serial) (x .label) (length (x .message)) (sealedBytes (keySchedule 4 w0 k0) (x .serial) (x .label) (x .message))
+
+  pub written-good : (x : WrittenFrom w0 k0 s) → LineOf s (frameFrom x)
+  written-good x =
+      record {
+        limits =
+            record {
+              serial = omega (arith, x .within .frame);
+              label = x .within .label;
+              message = x .within .message;
+              sealed = sealed-length (keySchedule 4 w0 k0) (x .serial) (x .label) (x .message);
+              label-bytes = x .label-bytes;
+              sealed-bytes = sealed-below (keySchedule 4 w0 k0) (x .serial) (x .label) (x .message);
+            };
+        line = x .line;
+      }
+
+  pub written-reads : (x : WrittenFrom w0 k0 s) → reading s ≡ Fields (x .serial) (length (x .label)) (length (x .message)) 20 (20 + 2 * length (x .label))
+  written-reads x = sym (reads-reading s (fieldsOf (frameFrom x)) (fields (frameFrom x) (written-good x)))
+
+  -- writing gives it, where there is room
+  pub writes-line : (x : WrittenFrom w0 k0 s) (out : List ℕ) → length s ≤ length out → writing w0 k0 (x .serial) (x .label) (x .message) out ≡ (Wrote (length s), s ++ drop (length s) out)
+  unfolding lineGiven
+  writes-line x out room =
+      let size : lineSize (length (x .label)) (length (frameFrom x .sealed)) ≡ length s = sym (ap length (x .line) ∙ line-length (frameFrom x)) in
+      sym (writes w0 k0 (x .serial) (x .label) (x .message) out (x .within))
+      ∙ sym (le-case (lineSize (length (x .label)) (length (frameFrom x .sealed))) (length out) _ _ (omega arith))
+      ∙ ap₂ (λ (k : ℕ) (l : List ℕ). (Wrote k, l ++ drop k out)) size (sym (x .line))
+
+  -- a line that writing gives opens to its message
+  pub line-opens : (x : WrittenFrom w0 k0 s) (out : List ℕ) → length (x .message) ≤ length out
+      → openingLine w0 k0 s out ≡ (Wrote (length (x .message)), x .message ++ drop (length (x .message)) out)
+  line-opens x out room =
+      passes-on w0 k0 s out (frameFrom x) (written-good x)
+      ∙ opens w0 k0 (x .serial) (x .label) (length (x .message)) (sealedBytes (keySchedule 4 w0 k0) (x .serial) (x .label) (x .message)) out (x .within) room
+      (record { message = x .message; bytes = x .message-bytes; size = refl; sealed = refl })
+
+  -- and no other line opens
+  opened-as : (out : List ℕ) (r : Reading) → Reads s r → (k : ℕ) (o : List ℕ) → openingLine w0 k0 s out ≡ (Wrote k, o) → WrittenFrom w0 k0 s
+  opened-as out r (refused p n q) k o e = absurd (false≢true (ap (λ (x : Answer × List ℕ). wrote (x .0)) (sym (not-a-line w0 k0 s out p n q) ∙ e)))
+  opened-as out r (fields f l) k o e =
+      let h = l .limits in
+      let w : Within (f .serial) (f .label) (f .message) = record { message = h .message; label = h .label; frame = omega (arith, h .serial) } in
+      let opened : opening w0 k0 (f .serial) (f .message) (f .label) (f .sealed) out ≡ (Wrote k, o) = sym (passes-on w0 k0 s out f l) ∙ e in
+      let x : SealedFrom (keySchedule 4 w0 k0) (f .serial) (f .label) (f .message) (f .sealed) =
+      elim (eq-zero-or-pos (f .message - length out)) [
+        | inl z ↦ opens-only w0 k0 (f .serial) (f .label) (f .message) (f .sealed) out w (omega arith) (h .sealed-bytes) k o opened
+        | inr z ↦ absurd (false≢true (ap (λ (y : Answer × List ℕ). wrote (y .0)) (sym (no-room w0 k0 (f .serial) (f .label) (f .message) (f .sealed) out w (h .sealed) (omega arith)) ∙ opened)))
+      ] in
+      record {
+        serial = f .serial;
+        label = f .label;
+        message = x .message;
+        label-bytes = h .label-bytes;
+        message-bytes = x .bytes;
+        within = record { message = omega (arith, x .size, h .message); label = h .label; frame = w .frame };
+        line = l .line ∙ ap₂ (λ (n : ℕ) (c : List ℕ). lineOf (frameOf (f .serial) (f .label) n c)) (sym (x .size)) (sym (x .sealed));
+      }
+
+  pub line-opens-only : (out : List ℕ) (k : ℕ) (o : List ℕ) → openingLine w0 k0 s out ≡ (Wrote k, o) → WrittenFrom w0 k0 s
+  line-opens-only out k o e = opened-as out (reading s) (reading-reads s) k o e

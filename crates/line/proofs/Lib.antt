@@ -1,0 +1,9 @@
+pub mod Shape
+pub mod Written
+pub mod Places
+pub mod Writing
+pub mod Calls
+pub mod Bytes
+pub mod Opener
+pub mod Demands
+pub mod Outcomes
