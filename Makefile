@@ -25,16 +25,19 @@ LIBRARY = -L native=$(@D) -l static=kkurimyeot
 help: ## print this list
 	@sed -n 's/^\([a-z]*\):.*## /make \1\t/p' Makefile
 
-run: ## prove the vectors program and run it
-	rt check vectors
+run: ## prove the programs and run them: the vectors, and the checker on the sample file
+	rt check vectors checker
 	tools/run vectors
+	tools/run checker < samples/cards.txt
 
 example: setup build/example ## print the worked example of docs/FORMAT.md
 	@$(EMULATOR) build/example
 
-test: setup build/unit build/compare build/calls build/example ## test the library, then prove everything: the gate
+test: setup build/unit build/compare build/checker build/calls build/example ## test the library, then prove everything: the gate
 	$(EMULATOR) build/unit
 	$(EMULATOR) build/compare
+	rt check checker
+	$(EMULATOR) build/checker try tools/run checker
 	$(EMULATOR) build/calls
 	$(EMULATOR) build/example | tests/shown docs/FORMAT.md
 	rt fmt --check
@@ -70,6 +73,12 @@ build/native/libkkurimyeot.a: always
 
 build/compare: build/libsecond.rlib
 	$(RUST) --extern second=$< tests/compare/main.rs -o $@
+
+build/checker: build/libsecond.rlib
+	$(RUST) --extern second=$< tests/checker/main.rs -o $@
+
+%/second: %/libsecond.rlib
+	$(RUST) --extern second=$< tests/checker/second.rs -o $@
 
 build/unit: build/libkkurimyeot.a
 	$(RUST) --crate-name second --test $(LIBRARY) tests/second/lib.rs -o $@

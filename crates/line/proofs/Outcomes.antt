@@ -4,6 +4,9 @@ use Rattle.words.proofs.Decided.{Decided}
 use Rattle.line.proofs
 use Rattle.line.proofs.Places.{reads-one}
 
+pub digit-at-decided : Decided proofs.digit_at.Kinds.ps proofs.digit_at.Kinds.r proofs.digit_at.Reads.Post
+digit-at-decided κs a x y v w p q = (p ∙ sym q, refl)
+
 pub read-decided : Decided proofs.read.Kinds.ps proofs.read.Kinds.r proofs.read.Reads.Post
 read-decided κs a x y v w p q = (reads-one _ x y p q, refl)
 

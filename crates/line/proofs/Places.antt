@@ -229,6 +229,10 @@ long-line s n l =
     reading-bad (take n s) (omega arith) ∙ ap NotLine e ∙ sym (reading-bad s (omega arith)))
     (λ u. rw (take-all n s u))
 
+-- a line of 2150 bytes or more is refused
+pub long-bad : (s : List ℕ) → 2150 ≤ length s → reading s ≡ NotLine (place s)
+long-bad s l = reading-bad s (omega (arith, place-early s l))
+
 -- ---- what a caller learns of the fields: where the parts stand, all inside the line
 
 pub record Inside (s : List ℕ) (a b c d e : ℕ) : Type 0 where

@@ -44,8 +44,8 @@ fn hex_val(b: u8) -> u64
     16
 }
 
-// The digit at place i, or 0 past the end.
-fn digit_at(s: &[u8], i: usize) -> u64
+// The value of the digit at place i: 0 past the end, and 16 for a byte that is no digit.
+pub fn digit_at(s: &[u8], i: usize) -> u64
     ensures { λ r. ⌜ r ≡ hexValue (getD (now (s .entry)) i 48) ⌝ }
 {
     if i < s.len() { hex_val(s[i]) } else { 0 }

@@ -1,0 +1,19 @@
+-- `finish` meets its contract: the listing is asked what it may be asked.
+use borrow.Author.Needs.{needs}
+use borrow.Author.Tests.{not-false}
+use Rattle.checker.proofs.finish.Statement.{statement}
+use Rattle.checker.proofs.finish.Tie as tie
+
+pub finish-spec : {M : Type 1} → statement M
+finish-spec =
+    tie.close
+    (tie.spec
+    (λ c κs. search needs)
+    (λ c κs. search needs)
+    (λ c. search needs)
+    (λ c κs. ((c .before .before .sound .ensures (not-false _ (c .before .if1 .left)), search needs), search needs))
+    (λ c κs. search needs)
+    (λ c. search needs)
+    (λ c. search needs)
+    (λ c. search needs)
+    (λ c. search needs))

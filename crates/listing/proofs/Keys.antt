@@ -1,0 +1,94 @@
+-- The key line: the computed test, and the two numbers.
+use Prim.Native.Nat.{ℕ, zero, suc, _+_, _-_, _^_, _≤_, _<_}
+use mathlib.Core.Bool.{Bool, true, false, false≢true, _&&_}
+use mathlib.Core.Path.{_≡_, refl, sym, ap, subst, _∙_}
+use mathlib.Core.List.{List}
+use mathlib.Core.Logic.{_⊎_, inl, inr}
+use native.Mathlib.Nat.{pow-le-pow-right, eq-or-lt-of-le, lt-of-lt-of-le}
+use native.Mathlib.Numerals.{add-one}
+use native.Mathlib.Omega.{arith}
+use borrow.Author.Tests.{lt-ltb, le-ltb, eq-eqb, ne-eqb, ltb-true}
+use lib.Dec.{lit<, ltb, eqb}
+use lib.ListN.{length, getD}
+use Rattle.line.specs.Reader.{hexValue, numberAt}
+use Rattle.line.proofs.Shape.{inside}
+use Rattle.line.proofs.Written.{num-below}
+use Rattle.listing.specs.Listing.{areDigits, isKey}
+use Rattle.listing.specs.Pieces.{keyOf}
+use Rattle.listing.specs.declared.Key.{Key}
+use Rattle.listing.specs.declared.Key.the-variants.{Unread, Known, Bad}
+
+-- sixteen digits make a number of 64 bits
+pub key-room : (l : List ℕ) (a i : ℕ) → i < 16 → ((j : ℕ) → j < 16 → hexValue (getD l (a + j) 48) < 16) → numberAt l a i < 2 ^ 60
+key-room l a i h d =
+    let few : i ≤ 15 = omega arith in
+    let room : 16 ^ i ≤ 16 ^ 15 = pow-le-pow-right {n = 16} (lit< tt) few in
+    lt-of-lt-of-le (num-below l a i (λ j x y. let e : a + (j - a) ≡ j = omega arith in subst (λ (k : ℕ). hexValue (getD l k 48) < 16) e (d (j - a) (omega arith)))) room
+
+-- ---- digits, one by one
+
+pub digits-next : (l : List ℕ) (i : ℕ) → areDigits l i ≡ true → hexValue (getD l i 48) < 16 → areDigits l (i + 1) ≡ true
+digits-next l i h d = rw add-one (simp (h, lt-ltb (hexValue (getD l i 48)) 16 d))
+
+digits-not : (l : List ℕ) (n i : ℕ) → i < n → 16 ≤ hexValue (getD l i 48) → areDigits l n ≡ false
+digits-not l zero i h d = absurd (omega arith)
+digits-not l (suc n) i h d =
+    elim (eq-or-lt-of-le {n = i} {m = n} (omega arith)) [
+      | inl e ↦ last (areDigits l n) (subst (λ (k : ℕ). 16 ≤ hexValue (getD l k 48)) e d)
+      | inr k ↦ ap (λ (t : Bool). t && ltb (hexValue (getD l n 48)) 16) (digits-not l n i k d)
+    ]
+  where
+    last : (t : Bool) → 16 ≤ hexValue (getD l n 48) → t && ltb (hexValue (getD l n 48)) 16 ≡ false
+    last true e = le-ltb (hexValue (getD l n 48)) 16 e
+    last false e = refl
+
+both : (t u : Bool) → t && u ≡ true → (t ≡ true) × (u ≡ true)
+both true u h = (refl, h)
+both false u h = absurd (false≢true h)
+
+pub digit-in : (l : List ℕ) (n i : ℕ) → areDigits l n ≡ true → i < n → hexValue (getD l i 48) < 16
+digit-in l zero i h k = absurd (omega arith)
+digit-in l (suc n) i h k =
+    let b = both (areDigits l n) _ h in
+    elim (eq-or-lt-of-le {n = i} {m = n} (omega arith)) [
+      | inl e ↦ subst (λ (j : ℕ). hexValue (getD l j 48) < 16) (sym e) (ltb-true _ 16 (b .1))
+      | inr u ↦ digit-in l n i (b .0) u
+    ]
+
+-- ---- the test, case by case
+
+module _ (l : List ℕ) where
+  pub other-length : (length l ≡ 33 → ⊥) → false ≡ isKey l
+  unfolding isKey
+  other-length h = simp (ne-eqb (length l) 33 h)
+
+  pub other-end : length l ≡ 33 → (getD l 32 0 ≡ 10 → ⊥) → false ≡ isKey l
+  unfolding isKey
+  other-end e h = simp (eq-eqb (length l) 33 e, ne-eqb (getD l 32 48) 10 (λ q. h (sym (inside l 32 (omega arith)) ∙ q)))
+
+  pub no-digit : (i : ℕ) → length l ≡ 33 → getD l 32 0 ≡ 10 → i < 32 → 16 ≤ hexValue (getD l i 48) → false ≡ isKey l
+  unfolding isKey
+  no-digit i e q h d = simp (eq-eqb (length l) 33 e, eq-eqb (getD l 32 48) 10 (inside l 32 (omega arith) ∙ q), digits-not l 32 i h d)
+
+  pub key-yes : (i : ℕ) → 32 ≤ i → i ≤ 32 → length l ≡ 33 → getD l 32 0 ≡ 10 → areDigits l i ≡ true → true ≡ isKey l
+  unfolding isKey
+  key-yes i lo hi e q d =
+      let n : i ≡ 32 = omega arith in
+      simp (eq-eqb (length l) 33 e, eq-eqb (getD l 32 48) 10 (inside l 32 (omega arith) ∙ q), subst (λ (k : ℕ). areDigits l k ≡ true) n d)
+
+  pub key-digits : isKey l ≡ true → areDigits l 32 ≡ true
+  unfolding isKey
+  key-digits h = both (eqb (length l) 33 && eqb (getD l 32 48) 10) (areDigits l 32) h .1
+
+  -- ---- the key
+
+  pub key-digit : isKey l ≡ true → (a : ℕ) → a ≤ 16 → (i : ℕ) → i < 16 → hexValue (getD l (a + i) 48) < 16
+  key-digit h a u i v = digit-in l 32 (a + i) (key-digits h) (omega arith)
+
+  pub key-bad : isKey l ≡ false → Bad ≡ keyOf l
+  unfolding keyOf
+  key-bad h = simp h
+
+  pub key-known : (w0 k0 : ℕ) → isKey l ≡ true → w0 ≡ numberAt l 0 16 → k0 ≡ numberAt l 16 16 → Known w0 k0 ≡ keyOf l
+  unfolding keyOf
+  key-known w0 k0 h e f = simp (h, e, f)

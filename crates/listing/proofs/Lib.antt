@@ -1,0 +1,7 @@
+pub mod Texts
+pub mod Keys
+pub mod Gathering
+pub mod Long
+pub mod Whole
+pub mod Demands
+pub mod Outcomes

@@ -1,0 +1,39 @@
+-- The first 2,150 bytes of a line decide.
+use Prim.Native.Nat.{ℕ, _≤_, _<_}
+use mathlib.Core.Bool.{Bool, true, false, _&&_}
+use mathlib.Core.Path.{_≡_, refl, sym, ap, _∙_}
+use mathlib.Core.List.{List}
+use native.Mathlib.Nat.{le-refl}
+use native.Mathlib.Omega.{arith}
+use borrow.Author.Tests.{ne-eqb}
+use lib.Dec.{eqb}
+use lib.ListN.{length, take, replicate, length-take}
+use lib.Seq.{take-all}
+use Rattle.refusals.specs.declared.Answer.{Answer}
+use Rattle.line.specs.Reader.{place, reading}
+use Rattle.line.specs.Calls.{openingAs, openingLine}
+use Rattle.line.specs.declared.Reading.{Reading}
+use Rattle.line.specs.declared.Reading.the-variants.{NotLine}
+use Rattle.line.proofs.Shape.{by-lt}
+use Rattle.line.proofs.Places.{long-line, long-bad}
+use Rattle.listing.specs.Listing.{isKey, answerOf}
+use Rattle.listing.specs.Pieces.{keyOf}
+use Rattle.listing.proofs.Keys.{other-length, key-bad}
+
+pub long-answer : (w0 k0 : ℕ) (l : List ℕ) → answerOf w0 k0 (take 2150 l) ≡ answerOf w0 k0 l
+unfolding answerOf openingLine
+long-answer w0 k0 l =
+    by-lt (length l) 2150
+    (λ h. ap (λ (x : List ℕ). openingLine w0 k0 x (replicate 1024 0) .0) (take-all 2150 l (omega arith)))
+    (λ h.
+    let short = long-bad l h in
+    ap (λ (r : Reading). openingAs w0 k0 (take 2150 l) r (replicate 1024 0) .0) (long-line l 2150 (le-refl 2150) ∙ short)
+    ∙ sym (ap (λ (r : Reading). openingAs w0 k0 l r (replicate 1024 0) .0) short))
+
+pub long-key : (l : List ℕ) → keyOf (take 2150 l) ≡ keyOf l
+long-key l =
+    by-lt (length l) 2150
+    (λ h. ap keyOf (take-all 2150 l (omega arith)))
+    (λ h.
+    sym (key-bad (take 2150 l) (sym (other-length (take 2150 l) (λ e. absurd (omega (arith, length-take 2150 l, e))))))
+    ∙ key-bad l (sym (other-length l (λ e. absurd (omega (arith, e))))))

@@ -1,0 +1,22 @@
+-- `listing::feed` meets its contract: a line that ended, or more bytes of one that has not.
+use borrow.Author.Needs.{needs}
+use mathlib.Core.Path.{sym}
+use native.Mathlib.Omega.{arith}
+use lib.Seq.{length-take-le}
+use Rattle.listing.proofs.Gathering.{feeds-ended, feeds-more}
+use Rattle.listing.proofs.feed.Statement.{statement}
+use Rattle.listing.proofs.feed.Tie as tie
+
+pub feed-spec : {M : Type 1} → statement M
+feed-spec =
+    tie.close
+    (tie.spec
+    (λ c κs. search needs)
+    (λ c. search needs)
+    (λ c. sym (length-take-le _ _ (omega (arith, c .before .before .before .before .gather .ensures .1))))
+    (λ c κs. search needs)
+    (λ c. search needs)
+    (λ c. search needs)
+    (λ c. feeds-ended _ _ _ _ _ (c .before .before .before .before .before .before .before .before .before .gather .ensures .0) _ _ (c .before .before .before .before .before .before .if1 .taken) (c .before .before .before .end-line .ensures))
+    (λ c. search needs)
+    (λ c. feeds-more _ _ _ _ _ (c .before .before .before .gather .ensures .0) (c .if1 .left)))

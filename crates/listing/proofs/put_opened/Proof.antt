@@ -1,0 +1,19 @@
+-- `listing::put_opened` meets its contract: number, text and count, each behind the other.
+use borrow.Author.Needs.{needs}
+use mathlib.Core.List.{append-assoc}
+use native.Mathlib.Omega.{arith}
+use Rattle.listing.proofs.Texts.{and-then, same-text}
+use Rattle.listing.proofs.put_opened.Statement.{statement}
+use Rattle.listing.proofs.put_opened.Tie as tie
+
+pub put-opened-spec : {M : Type 1} → statement M
+put-opened-spec =
+    tie.close
+    (tie.spec
+    (λ c κs. search needs)
+    (λ c. search needs)
+    (λ c κs. search needs)
+    (λ c. search needs)
+    (λ c κs. search needs)
+    (λ c. search needs)
+    (λ c. same-text (simp append-assoc) (and-then (and-then (c .before .before .before .before .before .before .before .before .before .before .before .before .add-decimal .ensures .0) (c .before .before .before .before .before .before .before .add-field .ensures .0) (omega arith)) (c .before .before .add .ensures .0) (omega arith))))

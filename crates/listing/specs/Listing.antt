@@ -1,0 +1,116 @@
+-- Document 01, "The file checker's listing": what the checker prints, from the bytes of the input.
+use Prim.Native.Nat.{ℕ, zero, suc, _+_, _-_, _/_, _%_}
+use mathlib.Core.Bool.{Bool, true, false, cond, _&&_}
+use mathlib.Core.List.{List, [], _∷_, _++_}
+use lib.Dec.{eqb, ltb}
+use lib.ListN.{length, getD, replicate}
+use Rattle.refusals.specs.declared.Answer.{Answer}
+use Rattle.refusals.specs.declared.Answer.the-variants.{Wrote, Refused}
+use Rattle.refusals.specs.declared.Refusal.{Refusal}
+use Rattle.refusals.specs.declared.Refusal.the-variants.{Settings, Length, Serial, SealedSize, Room, Disagrees, Line}
+use Rattle.line.specs.Reader.{hexValue, numberAt}
+use Rattle.line.specs.Calls.{openingLine, WrittenFrom}
+
+-- ---- the lines of the input
+
+abbrev pub onFirst : ℕ → List (List ℕ) → List (List ℕ)
+onFirst b [] = (b ∷ []) ∷ []
+onFirst b (l ∷ ls) = (b ∷ l) ∷ ls
+
+-- "A last piece without 0A counts as a line if it isn't empty": a line is its bytes with its 0A
+unfoldable pub linesOf : List ℕ → List (List ℕ)
+linesOf [] = []
+linesOf (b ∷ s) = cond (eqb b 10) ((b ∷ []) ∷ linesOf s) (onFirst b (linesOf s))
+
+-- ---- the key line
+
+-- whether the first n bytes are digits
+abbrev pub areDigits : List ℕ → ℕ → Bool
+areDigits l zero = true
+areDigits l (suc n) = areDigits l n && ltb (hexValue (getD l n 48)) 16
+
+-- "a key line (32 lowercase hexadecimal digits, w0 then k0, byte 0A)"
+unfoldable pub isKey : List ℕ → Bool
+isKey l = eqb (length l) 33 && eqb (getD l 32 48) 10 && areDigits l 32
+
+-- ---- what is printed
+
+-- a number below 10 ^ n in decimal
+unfoldable pub spelled : ℕ → ℕ → List ℕ
+spelled zero n = []
+spelled (suc k) n = cond (ltb n 10) ((n + 48) ∷ []) (spelled k (n / 10) ++ (n % 10 + 48) ∷ [])
+
+abbrev pub decimal : ℕ → List ℕ
+decimal n = spelled 20 n
+
+-- "key refused", 0A
+abbrev pub keyRefused : List ℕ
+keyRefused = 107 ∷ 101 ∷ 121 ∷ 32 ∷ 114 ∷ 101 ∷ 102 ∷ 117 ∷ 115 ∷ 101 ∷ 100 ∷ 10 ∷ []
+
+-- " opened "
+abbrev pub opened : List ℕ
+opened = 32 ∷ 111 ∷ 112 ∷ 101 ∷ 110 ∷ 101 ∷ 100 ∷ 32 ∷ []
+
+-- " refused "
+abbrev pub refused : List ℕ
+refused = 32 ∷ 114 ∷ 101 ∷ 102 ∷ 117 ∷ 115 ∷ 101 ∷ 100 ∷ 32 ∷ []
+
+-- " at "
+abbrev pub at : List ℕ
+at = 32 ∷ 97 ∷ 116 ∷ 32 ∷ []
+
+-- "lines "
+abbrev pub linesText : List ℕ
+linesText = 108 ∷ 105 ∷ 110 ∷ 101 ∷ 115 ∷ 32 ∷ []
+
+-- "`refused`, the number and, for 7, the place"
+abbrev pub refusalText : Refusal → List ℕ
+refusalText Settings = decimal 1
+refusalText Length = decimal 2
+refusalText Serial = decimal 3
+refusalText SealedSize = decimal 4
+refusalText Room = decimal 5
+refusalText Disagrees = decimal 6
+refusalText (Line p) = decimal 7 ++ (at ++ decimal p)
+
+-- "Each line prints its number with `opened` and the message length, or `refused`, .."
+abbrev pub report : ℕ → Answer → List ℕ
+report n (Wrote k) = decimal n ++ (opened ++ (decimal k ++ (10 ∷ [])))
+report n (Refused r) = decimal n ++ (refused ++ (refusalText r ++ (10 ∷ [])))
+
+-- what opening a line answers, with room for every message
+unfoldable pub answerOf : ℕ → ℕ → List ℕ → Answer
+answerOf w0 k0 l = openingLine w0 k0 l (replicate 1024 0) .0
+
+abbrev pub reports : ℕ → ℕ → ℕ → List (List ℕ) → List ℕ
+reports w0 k0 n [] = []
+reports w0 k0 n (l ∷ ls) = report (n + 1) (answerOf w0 k0 l) ++ reports w0 k0 (n + 1) ls
+
+abbrev pub one : Answer → ℕ
+one (Wrote k) = 1
+one (Refused r) = 0
+
+abbrev pub openedIn : ℕ → ℕ → List (List ℕ) → ℕ
+openedIn w0 k0 [] = 0
+openedIn w0 k0 (l ∷ ls) = one (answerOf w0 k0 l) + openedIn w0 k0 ls
+
+-- "a total closes"
+abbrev pub total : ℕ → ℕ → List ℕ
+total n k = linesText ++ (decimal n ++ (opened ++ (decimal k ++ (refused ++ (decimal (n - k) ++ (10 ∷ []))))))
+
+-- "A bad key line prints `key refused` and nothing more."
+unfoldable pub listed : List (List ℕ) → List ℕ
+listed [] = keyRefused
+listed (l ∷ ls) =
+    cond (isKey l)
+    (reports (numberAt l 0 16) (numberAt l 16 16) 0 ls ++ total (length ls) (openedIn (numberAt l 0 16) (numberAt l 16 16) ls))
+    keyRefused
+
+-- the whole output for an input
+abbrev pub listing : List ℕ → List ℕ
+listing s = listed (linesOf s)
+
+-- "A file is good when every line of it opens": of the lines behind the key line
+pub data Good (w0 k0 : ℕ) : List (List ℕ) → Type 0 where
+  none : Good w0 k0 []
+  more : {l : List ℕ} {ls : List (List ℕ)} → WrittenFrom w0 k0 l → Good w0 k0 ls → Good w0 k0 (l ∷ ls)
