@@ -5,12 +5,16 @@ RUSTC := rustc
 CC := gcc
 EMULATOR :=
 TIMED := build/bench
+CHECKER := tools/run checker
+SECOND := build/second
 export BINUTILS :=
 else
 RUSTC := /usr/bin/rustc --target x86_64-unknown-linux-gnu -C linker=x86_64-linux-gnu-gcc
 CC := x86_64-linux-gnu-gcc
 EMULATOR := /usr/bin/qemu-x86_64
 TIMED := build/native/bench
+CHECKER := build/native/checker
+SECOND := build/native/second
 export BINUTILS := x86_64-linux-gnu-
 endif
 
@@ -43,10 +47,12 @@ test: setup build/unit build/compare build/checker build/calls build/example ## 
 	rt fmt --check
 	rt ci
 
-bench: setup build/bench $(TIMED) ## measure the library beside the second program
+bench: setup build/bench $(TIMED) build/checker $(SECOND) build/used ## measure the library beside the second program
 	$(if $(EMULATOR),bench/instructions $(EMULATOR) build/bench)
 	$(TIMED)
 	bench/sizes build/libkkurimyeot.a
+	$(if $(EMULATOR),bench/native $(CHECKER) checker,rt check checker)
+	bench/listing "$(EMULATOR) build/checker lines" build/used "$(CHECKER)" $(SECOND)
 
 setup: ## install what the tests need and this machine lacks
 	tools/setup
@@ -63,7 +69,7 @@ build/libkkurimyeot.a: always
 # For the machine at hand.
 build/native/%: RUSTC := rustc
 build/native/libkkurimyeot.a: always
-	bench/native $@
+	bench/native $@ kkurimyeot
 
 %/libsecond.rlib: %/libkkurimyeot.a
 	$(RUST) --crate-type rlib --crate-name second $(LIBRARY) tests/second/lib.rs -o $@
@@ -82,6 +88,10 @@ build/checker: build/libsecond.rlib
 
 build/unit: build/libkkurimyeot.a
 	$(RUST) --crate-name second --test $(LIBRARY) tests/second/lib.rs -o $@
+
+build/used: bench/used.c
+	mkdir -p $(@D)
+	gcc -std=gnu99 -pedantic -Wall -Wextra -Werror -O2 $< -o $@
 
 build/calls build/example: build/libkkurimyeot.a
 	$(CC) -std=c99 -pedantic -Wall -Wextra -Werror -I include tests/$(@F).c $< -o $@

@@ -303,7 +303,8 @@ uint64_t kk_seal(uint64_t w0, uint64_t k0, uint64_t serial,
  *
  * Under one key, serial and label, sealed bytes open at one length at most that is
  * not a multiple of 8: the fill shows where the message ends. That they do not
- * open at a multiple of 8 as well rests on the tag, as with any changed frame.
+ * open at a multiple of 8 as well rests on the tag, as with any changed frame: such
+ * bytes exist, and are as rare as a tag that is right by chance.
  *
  * Refusals, in this order:
  *   KK_REFUSED_LENGTH if message_length is above KK_MESSAGE_MAX, or label_length

@@ -6,7 +6,7 @@ use crate::frames::{
 };
 use second::frame::{self, Refusal, SERIAL_MAX};
 use second::harness::{self, Outcome, Tally};
-use second::qarma::Key;
+use second::qarma::{vectors::KEY, Key};
 use second::rng::Rng;
 
 /// Lent memory for more than any message.
@@ -195,7 +195,7 @@ fn at_other_length(message: usize, length: usize) -> Refusal {
     }
 }
 
-/// No frame opens at another length: short ones at all, the rest at those near their own.
+/// These frames open at no other length: short ones at all, the rest at those near their own.
 fn other_lengths(tally: &mut Tally) {
     let mut memory = Memory::new(25);
     for message in 0..=LONGEST_MESSAGE {
@@ -210,6 +210,28 @@ fn other_lengths(tally: &mut Tally) {
             let meant = refused(at_other_length(message, length));
             tally.expect(&call.opening(&sealed).at(length), AMPLE, &meant);
         }
+    }
+}
+
+/// A sealed text that opens at two lengths, as the rules of document 01 allow: the tags of the whole
+/// and of the filled message agree by chance.
+fn two_lengths(tally: &mut Tally) {
+    let bytes = |hex: u128, count: usize| hex.to_be_bytes()[16 - count..].to_vec();
+    let whole = bytes(0xA54729AA32646895C497EFE738867FB1, 16);
+    let short = bytes(0xA54729AA326468950000024299B5A8, 15);
+    for message in [whole, short] {
+        let call = SealCall {
+            key: KEY,
+            serial: 1,
+            label: &[],
+            message: &message,
+        };
+        let sealed = [
+            bytes(0x07C083A47B326C6D9BF88EB2BDB10960, 16),
+            bytes(0x000000003B271E6A, 8),
+        ];
+        tally.expect(&call, 24, &Outcome::wrote(sealed.concat()));
+        opens(tally, &call, message.len());
     }
 }
 
@@ -512,6 +534,7 @@ pub fn compare(tally: &mut Tally) {
     others(tally);
     parts(tally);
     other_lengths(tally);
+    two_lengths(tally);
     like_filled(tally);
     fills(tally);
     last_blocks(tally);

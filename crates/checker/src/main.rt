@@ -1,7 +1,7 @@
 // The file checker: prints the listing of standard input.
 ghost use Prim.Native.Nat.{_+_, _^_, _<_, _≤_};
 ghost use mathlib.Core.Path.{_≡_};
-ghost use mathlib.Core.Bool.{true};
+ghost use mathlib.Core.Bool.{true, false};
 ghost use lib.ListN.{length};
 ghost use Rattle.listing.specs.Pieces.{Kept};
 use libc::STDERR_FILENO;
@@ -22,22 +22,6 @@ struct Step {
 struct Place {
     at: usize,
     going: bool,
-}
-
-// Whether the counts are within the bounds that the listing asks for. They always are: nothing proves it yet.
-fn sound(t: Lister) -> bool
-    ensures { λ r. ⌜ (r ≡ true → Kept t) ⌝ }
-{
-    if t.lines < t.opened {
-        return false;
-    }
-    if t.lines >= 0x4000000000000000 {
-        return false;
-    }
-    if t.held > 2150 {
-        return false;
-    }
-    true
 }
 
 // Says on standard error what has failed: a program has no exit status to say it with.
@@ -75,7 +59,8 @@ fn room(out: &[u8], used: usize) -> Place
 
 // Stops.
 fn stop(t: Lister) -> Step
-    ensures { λ r. ⌜ (r .used ≡ 0) × (r .taken ≡ 0) ⌝ }
+    requires { ⌜ Kept t ⌝ }
+    ensures { λ r. ⌜ (Kept (r .state) × (r .state .lines ≡ t .lines)) × (r .used ≡ 0) × (r .taken ≡ 0) × (r .going ≡ false) ⌝ }
 {
     Step {
         state: t,
@@ -85,62 +70,30 @@ fn stop(t: Lister) -> Step
     }
 }
 
-// Stops for what cannot be.
-fn halt(t: Lister) -> Step
-    ensures { λ r. ⌜ (r .used ≡ 0) × (r .taken ≡ 0) ⌝ }
-{
-    complain(b"counting");
-    stop(t)
-}
-
-// Feeds the listing with the bytes of a piece from one place up to the next 0A. What there is to print stands at the start of text.
-fn feed(t: Lister, line: &mut [u8], piece: &[u8], from: usize, text: &mut [u8]) -> Step
-    requires { ⌜ ((2150 ≤ length (now line)) × (128 ≤ length (now text))) × (from ≤ length (now piece)) ⌝ }
-    ensures { λ r. ⌜ (r .used ≤ 128) × (from + r .taken ≤ length (now (piece .entry))) ⌝ }
-{
-    if !sound(t) {
-        return halt(t);
-    }
-    let fed = listing::feed(t, line, &piece[from..], text);
-    let state = fed.state;
-    if piece.len() - from < fed.taken {
-        return halt(state);
-    }
-    if 128 < fed.said {
-        return halt(state);
-    }
-    Step {
-        state,
-        used: fed.said,
-        taken: fed.taken,
-        going: true,
-    }
-}
-
-// The same, with what there is to print behind what waits.
+// Feeds the listing with the bytes of a piece from one place up to the next 0A. What there is to print goes behind what waits.
 fn turn(t: Lister, line: &mut [u8], piece: &[u8], from: usize, out: &mut [u8], used: usize) -> Step
-    requires { ⌜ ((2150 ≤ length (now line)) × (from ≤ length (now piece))) × ((used ≤ length (now out)) × (128 ≤ length (now out))) ⌝ }
-    ensures { λ r. ⌜ (r .used ≤ length (now (out .entry))) × (from + r .taken ≤ length (now (piece .entry))) ⌝ }
+    requires { ⌜ (Kept t × (t .lines + 1 < 2 ^ 63)) × ((2150 ≤ length (now line)) × (from < length (now piece))) × ((used ≤ length (now out)) × (128 ≤ length (now out))) ⌝ }
+    ensures { λ r. ⌜ (Kept (r .state) × (r .state .lines ≤ t .lines + 1)) × (r .used ≤ length (now (out .entry))) × (from + r .taken ≤ length (now (piece .entry))) × (r .going ≡ true → 1 ≤ r .taken) ⌝ }
 {
     let place = room(out, used);
     let at = place.at;
     if !place.going {
         return stop(t);
     }
-    let step = feed(t, line, piece, from, &mut out[at..]);
-    let state = step.state;
+    let fed = listing::feed(t, line, &piece[from..], &mut out[at..]);
+    let state = fed.state;
     Step {
         state,
-        used: at + step.used,
-        taken: step.taken,
-        going: step.going,
+        used: at + fed.said,
+        taken: fed.taken,
+        going: true,
     }
 }
 
 // Feeds the listing with a whole piece.
 fn feed_all(t: Lister, line: &mut [u8], piece: &[u8], out: &mut [u8], used: usize) -> Step
-    requires { ⌜ ((2150 ≤ length (now line)) × (length (now piece) ≤ 65536)) × ((used ≤ length (now out)) × (128 ≤ length (now out))) ⌝ }
-    ensures { λ r. ⌜ r .used ≤ length (now (out .entry)) ⌝ }
+    requires { ⌜ (Kept t × (t .lines + 65536 < 2 ^ 63)) × ((2150 ≤ length (now line)) × (length (now piece) ≤ 65536)) × ((used ≤ length (now out)) × (128 ≤ length (now out))) ⌝ }
+    ensures { λ r. ⌜ (Kept (r .state) × (r .state .lines ≤ t .lines + 65536)) × (r .used ≤ length (now (out .entry))) ⌝ }
 {
     let mut state = t;
     let mut waiting = used;
@@ -149,9 +102,6 @@ fn feed_all(t: Lister, line: &mut [u8], piece: &[u8], out: &mut [u8], used: usiz
         let step = turn(state, line, piece, from, out, waiting);
         if !step.going {
             return step;
-        }
-        if step.taken == 0 {
-            return halt(state);
         }
         let next = step.state;
         state = next;
@@ -166,10 +116,10 @@ fn feed_all(t: Lister, line: &mut [u8], piece: &[u8], out: &mut [u8], used: usiz
     }
 }
 
-// Reads standard input to its end. A proved loop has to end, so the turns are counted, from a number that no run uses up.
+// Reads standard input to its end. A proved loop has to end, so the turns are counted, from 2^46: no run uses them up, and as many pieces have fewer than 2^63 lines.
 fn read_all(line: &mut [u8], buf: &mut [u8], out: &mut [u8]) -> Step
     requires { ⌜ ((2150 ≤ length (now line)) × (length (now buf) ≤ 65536)) × (128 ≤ length (now out)) ⌝ }
-    ensures { λ r. ⌜ r .used ≤ length (now (out .entry)) ⌝ }
+    ensures { λ r. ⌜ (Kept (r .state) × (r .state .lines + 1 < 2 ^ 63)) × (r .used ≤ length (now (out .entry))) ⌝ }
 {
     let mut state = Lister {
         key: Key::Unread,
@@ -178,7 +128,7 @@ fn read_all(line: &mut [u8], buf: &mut [u8], out: &mut [u8]) -> Step
         held: 0,
     };
     let mut waiting = 0;
-    let mut turns = u64::MAX;
+    let mut turns: u64 = 0x400000000000;
     while turns > 0 {
         let got = libc::read(STDIN_FILENO, buf);
         if got < 0 {
@@ -203,78 +153,24 @@ fn read_all(line: &mut [u8], buf: &mut [u8], out: &mut [u8]) -> Step
         waiting = step.used;
         turns -= 1;
     }
-    halt(state)
-}
-
-// The end of the last line.
-fn finish(t: Lister, line: &[u8], text: &mut [u8]) -> Step
-    requires { ⌜ (2150 ≤ length (now line)) × (128 ≤ length (now text)) ⌝ }
-    ensures { λ r. ⌜ r .used ≤ 128 ⌝ }
-{
-    if !sound(t) {
-        return halt(t);
-    }
-    let ended = listing::finish(t, line, text);
-    let state = ended.state;
-    if 128 < ended.said {
-        return halt(state);
-    }
-    Step {
-        state,
-        used: ended.said,
-        taken: 0,
-        going: true,
-    }
-}
-
-// What closes the listing.
-fn sum_up(t: Lister, text: &mut [u8]) -> Step
-    requires { ⌜ 128 ≤ length (now text) ⌝ }
-    ensures { λ r. ⌜ r .used ≤ 128 ⌝ }
-{
-    if !sound(t) {
-        return halt(t);
-    }
-    let said = listing::sum_up(t, text);
-    if 128 < said {
-        return halt(t);
-    }
-    Step {
-        state: t,
-        used: said,
-        taken: 0,
-        going: true,
-    }
-}
-
-// Writes out what closes the listing.
-fn write_total(t: Lister, out: &mut [u8])
-    requires { ⌜ 128 ≤ length (now out) ⌝ }
-{
-    let total = sum_up(t, out);
-    if total.going {
-        let n = total.used;
-        flush(out, n);
-    }
+    complain(b"counting");
+    stop(state)
 }
 
 // Writes out what waits, the end of the last line and what closes the listing.
 fn close(t: Lister, line: &[u8], out: &mut [u8], used: usize)
-    requires { ⌜ (2150 ≤ length (now line)) × ((used ≤ length (now out)) × (128 ≤ length (now out))) ⌝ }
+    requires { ⌜ (Kept t × (t .lines + 1 < 2 ^ 63)) × (2150 ≤ length (now line)) × ((used ≤ length (now out)) × (128 ≤ length (now out))) ⌝ }
 {
     if !flush(out, used) {
         return;
     }
-    let last = finish(t, line, out);
-    if !last.going {
-        return;
-    }
-    let n = last.used;
-    if !flush(out, n) {
-        return;
-    }
+    let last = listing::finish(t, line, out);
     let state = last.state;
-    write_total(state, out);
+    if !flush(out, last.said) {
+        return;
+    }
+    let said = listing::sum_up(state, out);
+    flush(out, said);
 }
 
 fn main() {

@@ -1,17 +1,28 @@
--- `feed_all` meets its contract: each turn takes a byte or is the last.
+-- `feed_all` meets its contract: each turn takes a byte or is the last, and brings one line at most.
 use borrow.Author.Needs.{needs}
-use Prim.Native.Nat.{_-_, _≤_}
+use borrow.Author.Tests.{not-false}
+use Prim.Native.Nat.{_+_, _-_, _≤_}
 use mathlib.Core.Path.{_≡_}
+use native.Mathlib.Omega.{arith}
 use lib.ListN.{length}
+use Rattle.listing.specs.Pieces.{Kept}
 use Rattle.checker.proofs.feed_all.Statement.{statement}
 use Rattle.checker.proofs.feed_all.Tie as tie
 
 abbrev Inv-loop : tie.InvT-loop
 Inv-loop line₀ piece out₀ used state₀ waiting₀ from₀ line out state waiting from =
-    (length line ≡ length line₀) × (length out ≡ length out₀) × (waiting ≤ length out) × (from ≤ length piece) × (length piece ≤ 65536)
+    (length line ≡ length line₀) × (length out ≡ length out₀) × (waiting ≤ length out) × (from ≤ length piece) × Kept state × (state .lines ≤ state₀ .lines + from)
 
 abbrev μ-loop : tie.MeasureT-loop
 μ-loop line₀ piece out₀ used state₀ waiting₀ from₀ line out state waiting from = length piece - from
+
+loop-less : tie.Need-loop-less Inv-loop μ-loop
+loop-less c = omega (arith, c .before .before .before .before .before .before .before .before .turn .ensures .3 (not-false _ (c .before .before .if1 .left)))
+
+loop-again : tie.Need-loop-again Inv-loop μ-loop
+loop-again c =
+    let taken = c .before .before .before .before .before .before .before .before .turn .ensures .3 (not-false _ (c .before .before .if1 .left)) in
+    search (needs, taken)
 
 pub feed-all-spec : {M : Type 1} → statement M
 feed-all-spec =
@@ -24,13 +35,9 @@ feed-all-spec =
     (λ c. search needs)
     (λ c. search needs)
     (λ c. search needs)
-    (λ c κs. search needs)
     (λ c. search needs)
-    (λ c. search needs)
-    (λ c. search needs)
-    (λ c. search needs)
-    (λ c. search needs)
-    (λ c. search needs)
+    loop-less
+    loop-again
     (λ c. search needs)
     (λ c. search needs)
     (λ c. search needs))

@@ -1,17 +1,25 @@
--- `read_all` meets its contract: the turns count down, and what waits stays within the output.
+-- `read_all` meets its contract: the turns count down, each brings at most as many lines as a piece has bytes, and what waits stays within the output.
 use borrow.Author.Needs.{needs}
-use Prim.Native.Nat.{_≤_}
+use Prim.Native.Nat.{_+_, _*_, _^_, _≤_}
 use mathlib.Core.Path.{_≡_}
+use native.Mathlib.Omega.{arith}
 use lib.ListN.{length}
+use Rattle.listing.specs.Pieces.{Kept}
 use Rattle.checker.proofs.read_all.Statement.{statement}
 use Rattle.checker.proofs.read_all.Tie as tie
 
 abbrev Inv-loop : tie.InvT-loop
-Inv-loop line₀ buf₀ out₀ state₀ waiting₀ turns₀ t11 line buf out state waiting turns =
-    (length line ≡ length line₀) × (length buf ≡ length buf₀) × (length out ≡ length out₀) × (waiting ≤ length out) × (length buf ≤ 65536)
+Inv-loop line₀ buf₀ out₀ state₀ waiting₀ turns₀ t11 t12 line buf out state waiting turns =
+    (length line ≡ length line₀) × (length buf ≡ length buf₀) × (length out ≡ length out₀) × (waiting ≤ length out) × Kept state × (state .lines + 65536 * turns ≤ 2 ^ 62)
 
 abbrev μ-loop : tie.MeasureT-loop
-μ-loop line₀ buf₀ out₀ state₀ waiting₀ turns₀ t11 line buf out state waiting turns = turns
+μ-loop line₀ buf₀ out₀ state₀ waiting₀ turns₀ t11 t12 line buf out state waiting turns = turns
+
+returns-3 : tie.Need-returns-3 Inv-loop μ-loop
+returns-3 c =
+    let f = c .before .before .before .before .before .before .feed-all .ensures in
+    let i = c .before .before .before .before .before .before .before .before .before .before .before .before .before .before .before .before .before .before .before .loop .inv in
+    ((f .0 .0, omega (arith, f .0 .1, i .5)), omega (arith, f .1, i .2))
 
 pub read-all-spec : {M : Type 1} → statement M
 read-all-spec =
@@ -39,10 +47,12 @@ read-all-spec =
     (λ c. search needs)
     (λ c. search needs)
     (λ c. search needs)
+    returns-3
     (λ c. search needs)
     (λ c. search needs)
     (λ c. search needs)
     (λ c. search needs)
+    (λ c κs. search needs)
     (λ c κs. search needs)
     (λ c. search needs)
     (λ c. search needs)

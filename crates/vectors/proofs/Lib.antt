@@ -1,0 +1,2 @@
+pub mod Appendix
+pub mod Twice
