@@ -1,9 +1,10 @@
 # rt builds for x86-64. On another machine the tests too are built for x86-64 and run in an
-# emulator, and what is timed is built for that machine.
+# emulator, and what is timed or watched by valgrind is built for that machine.
 ifeq ($(shell uname -m),x86_64)
 RUSTC := rustc
 CC := gcc
 EMULATOR :=
+WATCHED := build/abuse
 TIMED := build/bench
 CHECKER := tools/run checker
 SECOND := build/second
@@ -12,6 +13,7 @@ else
 RUSTC := /usr/bin/rustc --target x86_64-unknown-linux-gnu -C linker=x86_64-linux-gnu-gcc
 CC := x86_64-linux-gnu-gcc
 EMULATOR := /usr/bin/qemu-x86_64
+WATCHED := build/native/abuse
 TIMED := build/native/bench
 CHECKER := build/native/checker
 SECOND := build/native/second
@@ -21,8 +23,13 @@ endif
 # One unit: how fast the second program is must not hang on how the compiler cuts it up.
 RUST = $(RUSTC) --edition 2021 -C opt-level=3 -C codegen-units=1
 LIBRARY = -L native=$(@D) -l static=kkurimyeot
+C99 = $(CC) -std=c99 -pedantic -Wall -Wextra -Werror
 
-.PHONY: help run example test bench setup clean always
+# Where `make install` puts the library, and the release that its pkg-config file names.
+PREFIX ?= /usr/local
+RELEASE = 0.1.0
+
+.PHONY: help run example test bench install setup clean always
 .NOTPARALLEL:
 .SECONDARY:
 
@@ -37,13 +44,19 @@ run: ## prove the programs and run them: the vectors, and the checker on the sam
 example: setup build/example ## print the worked example of docs/FORMAT.md
 	@$(EMULATOR) build/example
 
-test: setup build/unit build/compare build/checker build/calls build/example ## test the library, then prove everything: the gate
+test: setup build/unit build/compare build/abuse $(WATCHED) build/checker build/calls build/example build/loader build/first ## test the library, then prove everything: the gate
 	$(EMULATOR) build/unit
 	$(EMULATOR) build/compare
+	$(EMULATOR) build/abuse 1000000
+	valgrind -q --error-exitcode=1 $(WATCHED) 1000 exact
 	rt check checker
 	$(EMULATOR) build/checker try tools/run checker
 	$(EMULATOR) build/calls
 	$(EMULATOR) build/example | tests/shown docs/FORMAT.md
+	tests/shown docs/FORMAT.md listing < samples/cards.listing
+	$(EMULATOR) build/first | grep -x 'touch 27.41'
+	tests/loader $(EMULATOR) build/loader
+	tests/install "$(C99)" "$(EMULATOR)"
 	rt fmt --check
 	rt ci
 
@@ -53,6 +66,10 @@ bench: setup build/bench $(TIMED) build/checker $(SECOND) build/used ## measure 
 	bench/sizes build/libkkurimyeot.a
 	$(if $(EMULATOR),bench/native $(CHECKER) checker,rt check checker)
 	bench/listing "$(EMULATOR) build/checker lines" build/used "$(CHECKER)" $(SECOND)
+
+install: build/libkkurimyeot.a ## install library, header and checker under PREFIX, by default /usr/local
+	rt check checker
+	tools/install "$(PREFIX)" "$(DESTDIR)" $(RELEASE)
 
 setup: ## install what the tests need and this machine lacks
 	tools/setup
@@ -80,6 +97,9 @@ build/native/libkkurimyeot.a: always
 build/compare: build/libsecond.rlib
 	$(RUST) --extern second=$< tests/compare/main.rs -o $@
 
+%/abuse: %/libsecond.rlib
+	$(RUST) --extern second=$< tests/abuse/main.rs -o $@
+
 build/checker: build/libsecond.rlib
 	$(RUST) --extern second=$< tests/checker/main.rs -o $@
 
@@ -94,4 +114,12 @@ build/used: bench/used.c
 	gcc -std=gnu99 -pedantic -Wall -Wextra -Werror -O2 $< -o $@
 
 build/calls build/example: build/libkkurimyeot.a
-	$(CC) -std=c99 -pedantic -Wall -Wextra -Werror -I include tests/$(@F).c $< -o $@
+	$(C99) -I include tests/$(@F).c $< -o $@
+
+build/loader: build/libkkurimyeot.a
+	$(C99) -I include examples/loader.c $< -o $@
+
+# The example that README.md shows.
+build/first: build/libkkurimyeot.a
+	sed -n '/^```c$$/,/^```$$/{//!p}' README.md > $@.c
+	$(C99) -I include $@.c $< -o $@

@@ -2,7 +2,9 @@
  * kkurimyeot.h - the QARMA-64 block engine for C, frames sealed and opened with
  * it, and frame lines read, written and opened.
  *
- * This header is the manual. Link with libkkurimyeot.a.
+ * This header is the manual. Link with libkkurimyeot.a; once both are installed,
+ * `pkg-config --cflags --libs kkurimyeot` prints what the compiler has to be told.
+ * The files in docs/, examples/ and tests/ that are named here are in the sources.
  *
  *
  * Words
@@ -60,8 +62,13 @@
  *
  * Other bytes are refused with KK_REFUSED_LINE and a place, which is kk_count() of
  * the returned number: the smallest k such that the first k + 1 bytes begin no
- * good line. For a good line cut short it is the count of its bytes. A byte after
- * the 0x0A is refused at its place, so lines are handed in one at a time.
+ * good line. For a good line cut short it is the count of its bytes, and otherwise
+ * less. A byte after the 0x0A is refused at its place, so lines are handed in one
+ * at a time.
+ *
+ * KK_LINE_MAX + 1 bytes of memory are enough to read any input into: the first so
+ * many bytes of a longer one are refused as the whole is. With KK_LINE_MAX bytes, an
+ * input that starts with the longest line would be cut to a good one.
  *
  * docs/FORMAT.md has frames and lines for those who work without this library,
  * with an example in bytes.
@@ -108,6 +115,18 @@
  * first one in the function's list is given.
  *
  *
+ * What a call takes
+ *
+ * The archive is for x86-64. From outside it needs memset() and nothing else, so it
+ * links into programs without a C library or an operating system too. It has no
+ * variables and takes no memory but the stack: less than 4 KiB, and what memset()
+ * takes (docs/PERFORMANCE.md has the bytes for each call). Calls may run at the
+ * same time if none of them writes where another reads or writes.
+ *
+ * docs/DECISIONS.md says what was looked up of the archive, and what it means for
+ * other processors.
+ *
+ *
  * Not promised
  *
  * Nothing is promised about how long a call takes, nor that it takes equally
@@ -121,6 +140,7 @@
  * Examples
  *
  * At the end of this header. They are compiled when KK_EXAMPLE is defined.
+ * examples/loader.c is a whole program: a pad's loader, which opens a line.
  */
 
 #ifndef KKURIMYEOT_H

@@ -1,11 +1,9 @@
 //! Files for a checker: a key line, then lines, good and damaged.
 
 use second::frame::SERIAL_MAX;
-use second::line::{self, END, LONGEST};
+use second::line::{self, DIGITS, END, LONGEST};
 use second::qarma::{vectors, Key};
 use second::rng::Rng;
-
-pub const DIGITS: &[u8; 16] = b"0123456789abcdef";
 
 pub fn key_line(key: Key) -> Vec<u8> {
     let Key { w0, k0 } = key;
@@ -43,7 +41,7 @@ impl Lines {
 
     /// A random number below this one.
     pub fn below(&mut self, number: usize) -> usize {
-        self.rng.word() as usize % number
+        self.rng.below(number)
     }
 
     /// A good line with a label and a message of these lengths, the serial after the last one's.

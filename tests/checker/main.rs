@@ -4,16 +4,18 @@
 //!     checker lines COUNT           prints a file of so many lines, good and damaged
 //!     checker cards                 prints the sample file
 
+mod abuse;
 mod feed;
 mod files;
 
-use feed::{Checker, Feed};
-use files::{key_line, Lines, DIGITS};
-use second::line::{END, LONGEST};
+use feed::{Checker, Feed, Output, Ran};
+use files::{key_line, Lines};
+use second::line::{DIGITS, END, LONGEST};
 use second::listing::{self, KEY_REFUSED};
 use second::qarma::{vectors, Key};
 use std::env;
 use std::io::{self, BufWriter, Write};
+use std::os::unix::process::ExitStatusExt;
 use std::process::ExitCode;
 
 /// The lines of the great file.
@@ -29,10 +31,48 @@ const NO_DIGITS: &[u8] = b"/:`gAFGZ \t\r\0x-+._\x7F\x80\xB0\xFF";
 const CARDS: &[u8] = include_bytes!("../../samples/cards.txt");
 const CARDS_LISTING: &[u8] = include_bytes!("../../samples/cards.listing");
 
-/// Counts the files that a checker was tried on, and prints the first differences.
+/// What a checker is meant to leave behind. If it is not ended by a signal, its status is 0.
+#[derive(Clone, Copy)]
+struct Meant<'a> {
+    printed: &'a [u8],
+    said: &'a [u8],
+    signal: Option<i32>,
+}
+
+impl<'a> Meant<'a> {
+    /// This on standard output, and nothing on standard error.
+    fn printing(printed: &'a [u8]) -> Self {
+        Self {
+            printed,
+            said: b"",
+            signal: None,
+        }
+    }
+
+    /// This on standard error, and nothing on standard output.
+    fn saying(said: &'a [u8]) -> Self {
+        Self {
+            printed: b"",
+            said,
+            signal: None,
+        }
+    }
+
+    fn agrees(&self, ran: &Ran) -> bool {
+        let ended = match self.signal {
+            None => ran.status.success(),
+            signal => ran.status.signal() == signal,
+        };
+        ended && ran.printed == self.printed && ran.said == self.said
+    }
+}
+
+/// Counts the files that a checker was tried on, and its runs on an input or an output that fails, and
+/// prints the first differences.
 struct Tries {
     checker: Checker,
     files: u64,
+    failing: u64,
     differences: u64,
 }
 
@@ -53,16 +93,35 @@ impl Tries {
     }
 
     fn fed(&mut self, name: &str, input: &[u8], feed: Feed, meant: &[u8]) -> io::Result<()> {
-        let (printed, status) = self.checker.run(input, feed)?;
         self.files += 1;
-        if printed != meant || !status.success() {
+        self.run(name, input, feed, Output::Read, Meant::printing(meant))
+    }
+
+    /// On an input or to an output that fails, the checker ends as it is meant to.
+    fn ends(&mut self, input: &[u8], feed: Feed, output: Output, meant: Meant) -> io::Result<()> {
+        self.failing += 1;
+        self.run("failing", input, feed, output, meant)
+    }
+
+    fn run(
+        &mut self,
+        name: &str,
+        input: &[u8],
+        feed: Feed,
+        output: Output,
+        meant: Meant,
+    ) -> io::Result<()> {
+        let run = format!("{name}, {} bytes, {feed:?}, {output:?}", input.len());
+        let ran = match self.checker.run(input, feed, output) {
+            Err(error) => return Err(io::Error::new(error.kind(), format!("{run}: {error}"))),
+            Ok(ran) => ran,
+        };
+        if !meant.agrees(&ran) {
             self.differences += 1;
             if self.differences <= PRINTED {
-                println!(
-                    "difference: {name}, {} bytes, {feed:?}: {status}",
-                    input.len()
-                );
-                show(&printed, meant);
+                println!("difference: {run}: {}", ran.status);
+                println!("  said {:?}", String::from_utf8_lossy(&ran.said));
+                show(&ran.printed, meant.printed);
             }
         }
         Ok(())
@@ -70,13 +129,17 @@ impl Tries {
 
     fn finish(self) -> ExitCode {
         let Self {
-            files, differences, ..
+            files,
+            failing,
+            differences,
+            ..
         } = self;
+        println!("checker: {files} files, {failing} runs on failing inputs and outputs");
         if differences == 0 {
-            println!("checker: {files} files, all listed as by the second program");
+            println!("checker: all as by the second program and as meant");
             ExitCode::SUCCESS
         } else {
-            println!("checker: {files} files, {differences} listed otherwise");
+            println!("checker: {differences} otherwise");
             ExitCode::FAILURE
         }
     }
@@ -372,6 +435,7 @@ fn try_checker(checker: Checker) -> io::Result<ExitCode> {
     let mut tries = Tries {
         checker,
         files: 0,
+        failing: 0,
         differences: 0,
     };
     examples(&mut tries)?;
@@ -382,6 +446,7 @@ fn try_checker(checker: Checker) -> io::Result<ExitCode> {
     lengths(&mut tries)?;
     long_lines(&mut tries)?;
     many_lines(&mut tries)?;
+    abuse::abuse(&mut tries)?;
     Ok(tries.finish())
 }
 

@@ -2,18 +2,15 @@
 //! by the second program, unless it is said to be the library's.
 
 use crate::frames::{
-    self, outcome, refused, Memory, Part, SealCall, BAD_LABELS, BAD_MESSAGES, LONG, LONGEST_LABEL,
-    LONGEST_MESSAGE, SHORT,
+    self, Memory, BAD_LABELS, BAD_MESSAGES, LONG, LONGEST_LABEL, LONGEST_MESSAGE, SHORT,
 };
-use second::ffi;
+use second::calls::frames::{refused, SealCall};
+use second::calls::lines::{opening, reading, writing, wrote_fields, Line, READ};
 use second::frame::{self, Refusal, SERIAL_MAX};
-use second::harness::{self, Call, Outcome, Tally};
-use second::line::{self, Fields, NotALine, END, LONGEST};
+use second::harness::{self, Outcome, Part, Tally};
+use second::line::{self, Fields, DIGITS, END, LONGEST};
 use second::qarma::Key;
 use second::rng::Rng;
-use std::fmt;
-
-const DIGITS: &[u8; 16] = b"0123456789abcdef";
 
 /// Bytes that are no digits: those beside the digits, capitals, blanks, ends of lines, and others.
 const NO_DIGITS: &[u8] = b"/:`gAFGZ \t\n\r\0x-+._\x7F\x80\xB0\xFF";
@@ -25,136 +22,11 @@ const MESSAGE_LENGTH: usize = 16;
 /// The label's place: the digits of version, serial and lengths are before it.
 const LABEL: usize = 20;
 
-/// The bytes of what reading answers: five words.
-const READ: usize = 40;
-
 /// Lent memory for more than any short message.
 const AMPLE: usize = SHORT + 40;
 
 /// Label and message lengths of short lines that more is tried on.
 const LINES: [(usize, usize); 7] = [(0, 0), (0, 1), (1, 0), (3, 5), (8, 8), (2, 15), (32, 17)];
-
-/// So many bytes of a line are shown.
-const SHOWN: usize = 160;
-
-/// Bytes that are handed in as a line, shown as text.
-#[derive(Clone, Copy)]
-struct Line<'a>(&'a [u8]);
-
-impl fmt::Debug for Line<'_> {
-    fn fmt(&self, f: &mut fmt::Formatter) -> fmt::Result {
-        let length = self.0.len();
-        let shown = self.0[..length.min(SHOWN)].escape_ascii();
-        let more = if length > SHOWN { ".." } else { "" };
-        write!(f, "\"{shown}\"{more} of length {length:x}")
-    }
-}
-
-#[derive(Clone, Copy, Debug)]
-struct ReadCall<'a> {
-    line: Line<'a>,
-}
-
-impl Call for ReadCall<'_> {
-    fn run(&self, out: &mut [u8]) -> u64 {
-        ffi::read_line(self.line.0, out)
-    }
-
-    fn meant(&self, room: usize) -> Outcome {
-        match line::read(self.line.0) {
-            Err(NotALine { place }) => Outcome::not_a_line(place),
-            Ok(_) if room < READ => refused(Refusal::Room),
-            Ok(fields) => wrote_fields(fields),
-        }
-    }
-}
-
-/// The outcome of a reading that answers these fields.
-fn wrote_fields(fields: Fields) -> Outcome {
-    let Fields {
-        serial,
-        label_length,
-        message_length,
-        label_place,
-        sealed_place,
-    } = fields;
-    let lengths_and_places = [label_length, message_length, label_place, sealed_place];
-    let words = [serial]
-        .into_iter()
-        .chain(lengths_and_places.map(|number| number as u64));
-    Outcome::wrote(words.flat_map(u64::to_be_bytes).collect())
-}
-
-/// The frame whose line is to be written.
-#[derive(Clone, Copy, Debug)]
-struct WriteCall<'a> {
-    frame: SealCall<'a>,
-}
-
-impl WriteCall<'_> {
-    /// How many bytes the line has.
-    fn need(&self) -> usize {
-        line::length(self.frame.label.len(), self.frame.message.len())
-    }
-}
-
-impl Call for WriteCall<'_> {
-    fn run(&self, out: &mut [u8]) -> u64 {
-        let SealCall {
-            key,
-            serial,
-            label,
-            message,
-        } = self.frame;
-        ffi::write_line(key, serial, label, message, out)
-    }
-
-    fn meant(&self, room: usize) -> Outcome {
-        let SealCall {
-            key,
-            serial,
-            label,
-            message,
-        } = self.frame;
-        let mut out = vec![0; room];
-        let answer = line::write(key, serial, label, message, &mut out);
-        outcome(answer, out)
-    }
-}
-
-#[derive(Clone, Copy, Debug)]
-struct OpenLineCall<'a> {
-    key: Key,
-    line: Line<'a>,
-}
-
-impl Call for OpenLineCall<'_> {
-    fn run(&self, out: &mut [u8]) -> u64 {
-        ffi::open_line(self.key, self.line.0, out)
-    }
-
-    fn meant(&self, room: usize) -> Outcome {
-        let mut out = vec![0; room];
-        match line::open(self.key, self.line.0, &mut out) {
-            Err(line::Refusal::Line(NotALine { place })) => Outcome::not_a_line(place),
-            Err(line::Refusal::Frame(refusal)) => refused(refusal),
-            Ok(written) => outcome(Ok(written), out),
-        }
-    }
-}
-
-fn reading(line: &[u8]) -> ReadCall<'_> {
-    ReadCall { line: Line(line) }
-}
-
-fn writing(frame: SealCall<'_>) -> WriteCall<'_> {
-    WriteCall { frame }
-}
-
-fn opening(key: Key, line: &[u8]) -> OpenLineCall<'_> {
-    let line = Line(line);
-    OpenLineCall { key, line }
-}
 
 /// The line of a frame, whether or not a size is exceeded.
 fn line_of(frame: &SealCall) -> Vec<u8> {

@@ -1,11 +1,11 @@
 //! `kk_open`. What is opened was sealed by the second program.
 
 use crate::frames::{
-    self, refused, Memory, OpenCall, Part, SealCall, BAD_LABELS, BAD_MESSAGES, LONG, LONGEST_LABEL,
-    LONGEST_MESSAGE, SHORT,
+    self, Memory, BAD_LABELS, BAD_MESSAGES, LONG, LONGEST_LABEL, LONGEST_MESSAGE, SHORT,
 };
+use second::calls::frames::{refused, OpenCall, SealCall};
 use second::frame::{self, Refusal, SERIAL_MAX};
-use second::harness::{self, Outcome, Tally};
+use second::harness::{self, Outcome, Part, Tally};
 use second::qarma::{vectors::KEY, Key};
 use second::rng::Rng;
 

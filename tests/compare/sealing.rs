@@ -1,8 +1,9 @@
 //! `kk_seal`.
 
 use crate::frames::{
-    self, refused, Memory, BAD_LABELS, BAD_MESSAGES, LONG, LONGEST_LABEL, LONGEST_MESSAGE, SHORT,
+    self, Memory, BAD_LABELS, BAD_MESSAGES, LONG, LONGEST_LABEL, LONGEST_MESSAGE, SHORT,
 };
+use second::calls::frames::refused;
 use second::frame::{Refusal, SERIAL_MAX};
 use second::harness::{self, Tally};
 use second::rng::Rng;

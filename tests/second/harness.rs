@@ -2,6 +2,7 @@
 
 use crate::opaque;
 use std::fmt::Debug;
+use std::ops::Deref;
 use std::process::ExitCode;
 
 /// Bytes on either side of a lent slice. An odd number, so that the slice is not aligned.
@@ -56,50 +57,77 @@ pub trait Call: Debug {
     fn meant(&self, room: usize) -> Outcome;
 }
 
-/// A slice to lend, between canary bytes, all of it filled with a pattern.
-struct Lent {
-    bytes: Vec<u8>,
-    room: usize,
-    fill: u8,
+/// A slice for a call between canary bytes, and what all of it held before.
+pub struct Part {
+    memory: Box<[u8]>,
+    before: Vec<u8>,
+    beside: usize,
 }
 
-impl Lent {
-    fn new(room: usize, fill: u8) -> Self {
-        let bytes = (0..room + 2 * GUARD)
-            .map(|i| Self::filled(fill, i))
-            .collect();
-        Self { bytes, room, fill }
+impl Part {
+    /// The bytes beside those that are handed in, so that a byte read past their end is not by chance
+    /// a fill or a digit.
+    const BESIDE: [u8; 3] = [0xC3, 0x80, 0x80];
+
+    /// Bytes to hand in.
+    pub fn new(bytes: &[u8]) -> Self {
+        Self::between(&Self::BESIDE, bytes)
     }
 
-    fn filled(fill: u8, i: usize) -> u8 {
-        fill ^ (i as u8).wrapping_mul(29)
+    /// These bytes, with the canaries before them and behind them. With no canaries they are an
+    /// allocation by themselves, of just their length.
+    pub fn between(canaries: &[u8], bytes: &[u8]) -> Self {
+        let before = [canaries, bytes, canaries].concat();
+        Self {
+            memory: before.clone().into_boxed_slice(),
+            before,
+            beside: canaries.len(),
+        }
+    }
+
+    /// A slice to lend, canaries and all filled with a pattern.
+    fn filled(room: usize, fill: u8) -> Self {
+        let pattern: Vec<u8> = (0..GUARD.max(room))
+            .map(|i| fill ^ (i as u8).wrapping_mul(29))
+            .collect();
+        Self::between(&pattern[..GUARD], &pattern[..room])
     }
 
     fn slice(&mut self) -> &mut [u8] {
-        &mut self.bytes[GUARD..GUARD + self.room]
+        let end = self.memory.len() - self.beside;
+        &mut self.memory[self.beside..end]
     }
 
-    /// The places, from the start of the slice, whose byte is not the one of `written` there or
-    /// else the one it was filled with. A place before 0 or from `room` on is a canary.
-    fn wrong(&mut self, written: &[u8]) -> Vec<isize> {
+    /// The places, from the start of the slice, whose byte is not the one of `written` there or else
+    /// the one from before. A place before 0 or past the slice is a canary.
+    fn wrong(&self, written: &[u8]) -> Vec<isize> {
         // The callee is not bound by Rust's rules: nothing is known of these bytes after the call.
-        let bytes = opaque(&mut self.bytes);
-        let meant = |i: usize| match i.checked_sub(GUARD).and_then(|i| written.get(i)) {
+        let memory = opaque(&self.memory);
+        let meant = |i: usize| match i.checked_sub(self.beside).and_then(|i| written.get(i)) {
             Some(&byte) => byte,
-            None => Self::filled(self.fill, i),
+            None => self.before[i],
         };
-        (0..bytes.len())
-            .filter(|&i| bytes[i] != meant(i))
-            .map(|i| i as isize - GUARD as isize)
+        (0..memory.len())
+            .filter(|&i| memory[i] != meant(i))
+            .map(|i| i as isize - self.beside as isize)
             .collect()
+    }
+}
+
+impl Deref for Part {
+    type Target = [u8];
+
+    fn deref(&self) -> &[u8] {
+        let memory = opaque(&self.memory);
+        &memory[self.beside..memory.len() - self.beside]
     }
 }
 
 /// What a call answers, and the lent memory of `room` bytes after it.
 pub fn answer(call: &impl Call, room: usize) -> (u64, Vec<u8>) {
-    let mut lent = Lent::new(room, FILLS[0]);
+    let mut lent = Part::filled(room, FILLS[0]);
     let answer = call.run(lent.slice());
-    (answer, lent.slice().to_vec())
+    (answer, lent.to_vec())
 }
 
 /// Counts comparisons and prints the first differences.
@@ -115,25 +143,38 @@ impl Tally {
         self.expect(call, room, &call.meant(room));
     }
 
-    /// Runs a call once under each fill; compares the returned number and every byte of the lent
-    /// memory and around it. One comparison for each run.
+    /// Runs a call once under each fill. One comparison for each run.
     pub fn expect(&mut self, call: &impl Call, room: usize, meant: &Outcome) {
         for fill in FILLS {
-            let mut lent = Lent::new(room, fill);
-            let answer = call.run(lent.slice());
-            let wrong = lent.wrong(&meant.written);
-            self.count(answer == meant.answer && wrong.is_empty(), || {
-                format!(
-                    "{call:x?} lent {room} bytes filled with {fill:02x}\n  \
-                     answer {answer:016x}, meant {:016x}\n  \
-                     memory {:02x?}, meant to begin with {:02x?}\n  \
-                     wrong at {wrong:?} (in decimal, canaries before 0 and from {room} on)",
-                    meant.answer,
-                    lent.slice(),
-                    meant.written,
-                )
-            });
+            self.once(call, Part::filled(room, fill), &[], meant);
         }
+    }
+
+    /// Runs a call; compares the returned number, every byte of the lent memory and around it, and
+    /// those of the parts that are handed in, which stay. Gives the returned number.
+    pub fn once(
+        &mut self,
+        call: &impl Call,
+        mut lent: Part,
+        handed_in: &[&Part],
+        meant: &Outcome,
+    ) -> u64 {
+        let answer = call.run(lent.slice());
+        let wrong = lent.wrong(&meant.written);
+        let changed: Vec<_> = handed_in.iter().map(|part| part.wrong(&[])).collect();
+        let kept = wrong.is_empty() && changed.iter().all(Vec::is_empty);
+        self.count(answer == meant.answer && kept, || {
+            let room = lent.len();
+            format!(
+                "{call:x?} lent {room} bytes\n  \
+                 answer {answer:016x}, meant {:016x}\n  \
+                 memory {:02x?}, meant to begin with {:02x?}\n  \
+                 wrong at {wrong:?} (in decimal, canaries before 0 and from {room} on)\n  \
+                 handed in and changed at {changed:?}",
+                meant.answer, &*lent, meant.written,
+            )
+        });
+        answer
     }
 
     /// Compares two values that have to be equal; `inputs` says what they came from.

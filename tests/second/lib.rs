@@ -4,6 +4,7 @@
 use std::mem::ManuallyDrop;
 use std::ptr;
 
+pub mod calls;
 pub mod ffi;
 pub mod frame;
 pub mod harness;

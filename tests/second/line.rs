@@ -20,7 +20,7 @@ pub const END: u8 = 0x0A;
 /// The bytes of the longest good line.
 pub const LONGEST: usize = length(LABEL_MAX as usize, MESSAGE_MAX as usize);
 
-const DIGITS: &[u8; 16] = b"0123456789abcdef";
+pub const DIGITS: &[u8; 16] = b"0123456789abcdef";
 
 /// The fields of a good line, and the places of its label and of its sealed bytes.
 #[derive(Clone, Copy, Debug, PartialEq, Eq)]

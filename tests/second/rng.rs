@@ -17,6 +17,16 @@ impl Rng {
         word ^ (word >> 31)
     }
 
+    /// A random number below this one.
+    pub fn below(&mut self, number: usize) -> usize {
+        self.word() as usize % number
+    }
+
+    /// One of these, at random.
+    pub fn one_of<T: Copy>(&mut self, these: &[T]) -> T {
+        these[self.below(these.len())]
+    }
+
     /// The next so many random bytes.
     pub fn bytes(&mut self, count: usize) -> Vec<u8> {
         (0..count).map(|_| self.word() as u8).collect()

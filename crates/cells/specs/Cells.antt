@@ -1,4 +1,4 @@
--- Document 01, "The engine", over the cell width: what is done to sixteen cells of m bits.
+-- Document 01, "The engine", over the cell width: what is done to sixteen cells of m bits. Document 000 has it in 2.1 (cells), 2.3 (shuffle, mix, boxes), 2.4 (tweak step) and 3.1.2 (the matrix of the mix).
 use mathlib.Core.Path.{_≡_}
 use mathlib.Core.Bool.{true, false}
 use mathlib.Core.List.{List, [], _∷_}
@@ -70,7 +70,7 @@ looked t a = sixteen (λ i. t ! cell a i)
 unfoldable pub picked : List ℕ → Cells → Cells
 picked p a = sixteen (λ i. cell a (p ! i))
 
--- "Cell shuffle", and where cells come from when it is undone
+-- "Cell shuffle", and where cells come from when it is undone (that it is: `Lawful.antt`)
 abbrev pub shuffleFrom : List ℕ
 shuffleFrom = 0 ∷ 11 ∷ 6 ∷ 13 ∷ 10 ∷ 1 ∷ 12 ∷ 7 ∷ 5 ∷ 14 ∷ 3 ∷ 8 ∷ 15 ∷ 4 ∷ 9 ∷ 2 ∷ []
 
@@ -83,7 +83,7 @@ shuffled a = picked shuffleFrom a
 abbrev pub unshuffled : Cells → Cells
 unshuffled a = picked unshuffleFrom a
 
--- "rotated left within its 4 bits by the entry ..; an entry '-' adds nothing": x rotated left by k within m bits, where k = 0 stands for "-"
+-- "rotated left within its 4 bits by the entry ..; an entry '-' adds nothing": what an entry k makes of x. An entry 0 is the paper's '-', and no rotation by 0
 abbrev pub rotated : ℕ → ℕ → ℕ → ℕ
 rotated m zero x = 0
 rotated m (suc k) x = (x * 2 ^ suc k % 2 ^ m) ⊕ (x / 2 ^ (m - suc k))
@@ -121,6 +121,6 @@ onSeven f a = sixteen (λ i. elim (among i seven) [ true ↦ f (cell a i) | fals
 abbrev pub stepped : Cipher → Cells → Cells
 stepped c t = onSeven (c .bitStep) (picked stepFrom t)
 
--- the tweak stepped back
+-- "step the tweak back" (that it does: `Lawful.antt`)
 abbrev pub unstepped : Cipher → Cells → Cells
 unstepped c t = picked unstepFrom (onSeven (c .bitBack) t)

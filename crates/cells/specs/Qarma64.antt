@@ -1,4 +1,4 @@
--- Document 01, "The engine": the boxes, entries, bit step and constants of QARMA-64.
+-- Document 01, "The engine": the boxes, entries, bit step and constants of QARMA-64. Document 000 has them in 3.3, 3.1.2, 2.4 and Table 1.
 use mathlib.Core.List.{List, [], _∷_}
 use Prim.Native.Nat.{ℕ, zero, suc, _+_, _*_, _/_, _%_}
 use lib.ListN.{getD}
@@ -14,7 +14,7 @@ boxes =
     ∷ (11 ∷ 6 ∷ 8 ∷ 15 ∷ 12 ∷ 0 ∷ 9 ∷ 14 ∷ 3 ∷ 7 ∷ 4 ∷ 5 ∷ 13 ∷ 2 ∷ 1 ∷ 10 ∷ [])
     ∷ []
 
--- "the inverse box"
+-- "the inverse box" (that each undoes its box: `Lawful.antt`)
 abbrev pub unboxes : List (List ℕ)
 unboxes =
     (0 ∷ 14 ∷ 2 ∷ 10 ∷ 9 ∷ 15 ∷ 8 ∷ 11 ∷ 6 ∷ 4 ∷ 3 ∷ 7 ∷ 13 ∷ 12 ∷ 1 ∷ 5 ∷ [])

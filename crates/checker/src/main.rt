@@ -11,7 +11,7 @@ use listing::Key;
 use listing::Lister;
 
 // What is kept of the listing, how many bytes of the output wait to be written, how many of the piece were taken, and whether to go on.
-struct Step {
+struct Progress {
     state: Lister,
     used: usize,
     taken: usize,
@@ -19,7 +19,7 @@ struct Step {
 }
 
 // Where the output goes on, and whether it does.
-struct Place {
+struct Waiting {
     at: usize,
     going: bool,
 }
@@ -43,26 +43,26 @@ fn flush(out: &[u8], used: usize) -> bool
 }
 
 // Where there is room for one more text. What waits is written out first where there is none.
-fn room(out: &[u8], used: usize) -> Place
+fn room(out: &[u8], used: usize) -> Waiting
     requires { ⌜ (used ≤ length (now out)) × (128 ≤ length (now out)) ⌝ }
     ensures { λ r. ⌜ (r .at + 128 ≤ length (now (out .entry))) × (r .at + 128 < 2 ^ 64) ⌝ }
 {
     if 128 <= out.len() - used {
-        return Place {
+        return Waiting {
             at: used,
             going: true,
         };
     }
     let going = flush(out, used);
-    Place { at: 0, going }
+    Waiting { at: 0, going }
 }
 
-// Stops.
-fn stop(t: Lister) -> Step
+// The state as it was, and no going on.
+fn stop(t: Lister) -> Progress
     requires { ⌜ Kept t ⌝ }
     ensures { λ r. ⌜ (Kept (r .state) × (r .state .lines ≡ t .lines)) × (r .used ≡ 0) × (r .taken ≡ 0) × (r .going ≡ false) ⌝ }
 {
-    Step {
+    Progress {
         state: t,
         used: 0,
         taken: 0,
@@ -71,18 +71,25 @@ fn stop(t: Lister) -> Step
 }
 
 // Feeds the listing with the bytes of a piece from one place up to the next 0A. What there is to print goes behind what waits.
-fn turn(t: Lister, line: &mut [u8], piece: &[u8], from: usize, out: &mut [u8], used: usize) -> Step
+fn feed_line(
+    t: Lister,
+    line: &mut [u8],
+    piece: &[u8],
+    from: usize,
+    out: &mut [u8],
+    used: usize,
+) -> Progress
     requires { ⌜ (Kept t × (t .lines + 1 < 2 ^ 63)) × ((2150 ≤ length (now line)) × (from < length (now piece))) × ((used ≤ length (now out)) × (128 ≤ length (now out))) ⌝ }
     ensures { λ r. ⌜ (Kept (r .state) × (r .state .lines ≤ t .lines + 1)) × (r .used ≤ length (now (out .entry))) × (from + r .taken ≤ length (now (piece .entry))) × (r .going ≡ true → 1 ≤ r .taken) ⌝ }
 {
-    let place = room(out, used);
-    let at = place.at;
-    if !place.going {
+    let waiting = room(out, used);
+    let at = waiting.at;
+    if !waiting.going {
         return stop(t);
     }
     let fed = listing::feed(t, line, &piece[from..], &mut out[at..]);
     let state = fed.state;
-    Step {
+    Progress {
         state,
         used: at + fed.said,
         taken: fed.taken,
@@ -91,7 +98,7 @@ fn turn(t: Lister, line: &mut [u8], piece: &[u8], from: usize, out: &mut [u8], u
 }
 
 // Feeds the listing with a whole piece.
-fn feed_all(t: Lister, line: &mut [u8], piece: &[u8], out: &mut [u8], used: usize) -> Step
+fn feed_all(t: Lister, line: &mut [u8], piece: &[u8], out: &mut [u8], used: usize) -> Progress
     requires { ⌜ (Kept t × (t .lines + 65536 < 2 ^ 63)) × ((2150 ≤ length (now line)) × (length (now piece) ≤ 65536)) × ((used ≤ length (now out)) × (128 ≤ length (now out))) ⌝ }
     ensures { λ r. ⌜ (Kept (r .state) × (r .state .lines ≤ t .lines + 65536)) × (r .used ≤ length (now (out .entry))) ⌝ }
 {
@@ -99,16 +106,16 @@ fn feed_all(t: Lister, line: &mut [u8], piece: &[u8], out: &mut [u8], used: usiz
     let mut waiting = used;
     let mut from = 0;
     while from < piece.len() {
-        let step = turn(state, line, piece, from, out, waiting);
-        if !step.going {
-            return step;
+        let next = feed_line(state, line, piece, from, out, waiting);
+        if !next.going {
+            return next;
         }
-        let next = step.state;
-        state = next;
-        waiting = step.used;
-        from += step.taken;
+        let fed = next.state;
+        state = fed;
+        waiting = next.used;
+        from += next.taken;
     }
-    Step {
+    Progress {
         state,
         used: waiting,
         taken: 0,
@@ -116,8 +123,8 @@ fn feed_all(t: Lister, line: &mut [u8], piece: &[u8], out: &mut [u8], used: usiz
     }
 }
 
-// Reads standard input to its end. A proved loop has to end, so the turns are counted, from 2^46: no run uses them up, and as many pieces have fewer than 2^63 lines.
-fn read_all(line: &mut [u8], buf: &mut [u8], out: &mut [u8]) -> Step
+// Reads standard input to its end. A proved loop has to end, so the reads are counted, from 2^46 down: no run uses them up, and as many pieces have fewer than 2^63 lines.
+fn read_all(line: &mut [u8], buf: &mut [u8], out: &mut [u8]) -> Progress
     requires { ⌜ ((2150 ≤ length (now line)) × (length (now buf) ≤ 65536)) × (128 ≤ length (now out)) ⌝ }
     ensures { λ r. ⌜ (Kept (r .state) × (r .state .lines + 1 < 2 ^ 63)) × (r .used ≤ length (now (out .entry))) ⌝ }
 {
@@ -128,15 +135,15 @@ fn read_all(line: &mut [u8], buf: &mut [u8], out: &mut [u8]) -> Step
         held: 0,
     };
     let mut waiting = 0;
-    let mut turns: u64 = 0x400000000000;
-    while turns > 0 {
+    let mut reads: u64 = 0x400000000000;
+    while reads > 0 {
         let got = libc::read(STDIN_FILENO, buf);
         if got < 0 {
             complain(b"reading");
             return stop(state);
         }
         if got == 0 {
-            return Step {
+            return Progress {
                 state,
                 used: waiting,
                 taken: 0,
@@ -144,14 +151,14 @@ fn read_all(line: &mut [u8], buf: &mut [u8], out: &mut [u8]) -> Step
             };
         }
         let n = io::count(got, buf);
-        let step = feed_all(state, line, &buf[..n], out, waiting);
-        if !step.going {
-            return step;
+        let next = feed_all(state, line, &buf[..n], out, waiting);
+        if !next.going {
+            return next;
         }
-        let next = step.state;
-        state = next;
-        waiting = step.used;
-        turns -= 1;
+        let fed = next.state;
+        state = fed;
+        waiting = next.used;
+        reads -= 1;
     }
     complain(b"counting");
     stop(state)
@@ -177,9 +184,9 @@ fn main() {
     let mut line = [0u8; 2150];
     let mut buf = io::large_buffer();
     let mut out = io::large_buffer();
-    let step = read_all(&mut line, &mut buf, &mut out);
-    if step.going {
-        let state = step.state;
-        close(state, &line, &mut out, step.used);
+    let next = read_all(&mut line, &mut buf, &mut out);
+    if next.going {
+        let state = next.state;
+        close(state, &line, &mut out, next.used);
     }
 }

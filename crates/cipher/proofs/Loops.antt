@@ -6,57 +6,57 @@ use native.Mathlib.Omega.{arith}
 use Rattle.cells.specs.Cells.{Cipher, added, stepped, unstepped}
 use Rattle.cells.specs.declared.Cells.{Cells}
 use Rattle.cells.proofs.Lawful.{Lawful}
-use Rattle.cipher.specs.Engine.{ScheduleBelow, StateBelow, forward, backward, forwardWord, backwardWord, down, downs, middle, up, ups, engine}
+use Rattle.cipher.specs.Engine.{ScheduleBelow, StateBelow, forward, backward, forwardWord, backwardWord, forwardStep, forwardSteps, middle, backwardStep, backwardSteps, engine}
 use Rattle.cipher.specs.declared.Schedule.{Schedule}
 use Rattle.cipher.specs.declared.State.{State}
-use Rattle.cipher.proofs.Rounds.{down-below, up-below}
+use Rattle.cipher.proofs.Rounds.{forwardStep-below, backwardStep-below}
 
 module _ (c : Cipher) (b : ℕ) (s : Schedule) (x : State) {ci : Cells} {r : State} where
-  down-is : (i : ℕ) → 1 ≤ i → ci ≡ c .constant i
-      → (r .block ≡ forward c b (x .block) (forwardWord s ci (x .tweak))) × (r .tweak ≡ stepped c (x .tweak)) → r ≡ down c b s i x
-  unfolding down
-  down-is zero l k e = absurd (omega arith)
-  down-is (suc i) l k e =
+  forwardStep-is : (i : ℕ) → 1 ≤ i → ci ≡ c .constant i
+      → (r .block ≡ forward c b (x .block) (forwardWord s ci (x .tweak))) × (r .tweak ≡ stepped c (x .tweak)) → r ≡ forwardStep c b s i x
+  unfolding forwardStep
+  forwardStep-is zero l k e = absurd (omega arith)
+  forwardStep-is (suc i) l k e =
       let block = e .0 ∙ ap (λ (a : Cells). forward c b (x .block) (forwardWord s a (x .tweak))) k in
       λ j. record { block = block j; tweak = e .1 j }
 
-  up-is : (i : ℕ) → 1 ≤ i → ci ≡ c .constant i
-      → (r .block ≡ backward c b (x .block) (backwardWord c s ci (unstepped c (x .tweak)))) × (r .tweak ≡ unstepped c (x .tweak)) → r ≡ up c b s i x
-  unfolding up
-  up-is zero l k e = absurd (omega arith)
-  up-is (suc i) l k e =
+  backwardStep-is : (i : ℕ) → 1 ≤ i → ci ≡ c .constant i
+      → (r .block ≡ backward c b (x .block) (backwardWord c s ci (unstepped c (x .tweak)))) × (r .tweak ≡ unstepped c (x .tweak)) → r ≡ backwardStep c b s i x
+  unfolding backwardStep
+  backwardStep-is zero l k e = absurd (omega arith)
+  backwardStep-is (suc i) l k e =
       let block = e .0 ∙ ap (λ (a : Cells). backward c b (x .block) (backwardWord c s a (unstepped c (x .tweak)))) k in
       λ j. record { block = block j; tweak = e .1 j }
 
 module _ {c : Cipher} (k : Lawful c) {s : Schedule} (g : ScheduleBelow (c .bits) s) {b : ℕ} (n : b < 3) {ci : Cells} {x r : State} (h : StateBelow (c .bits) x) where
   -- what i steps make of a start, the next step takes on
-  pub down-again : (i : ℕ) → 1 ≤ i → ci ≡ c .constant i
+  pub forwardStep-again : (i : ℕ) → 1 ≤ i → ci ≡ c .constant i
       → (r .block ≡ forward c b (x .block) (forwardWord s ci (x .tweak))) × (r .tweak ≡ stepped c (x .tweak))
-      → {x0 : State} → ((y : State) → x0 ≡ downs c b s 1 y → x ≡ downs c b s i y)
-      → StateBelow (c .bits) r × ((y : State) → x0 ≡ downs c b s 1 y → r ≡ downs c b s (i + 1) y)
-  down-again i l q e inv =
-      let step : r ≡ down c b s i x = down-is c b s x i l q e in
-      (rw step (down-below k g n i h), λ y p. rw add-one (step ∙ ap (down c b s i) (inv y p)))
+      → {x0 : State} → ((y : State) → x0 ≡ forwardSteps c b s 1 y → x ≡ forwardSteps c b s i y)
+      → StateBelow (c .bits) r × ((y : State) → x0 ≡ forwardSteps c b s 1 y → r ≡ forwardSteps c b s (i + 1) y)
+  forwardStep-again i l q e inv =
+      let step : r ≡ forwardStep c b s i x = forwardStep-is c b s x i l q e in
+      (rw step (forwardStep-below k g n i h), λ y p. rw add-one (step ∙ ap (forwardStep c b s i) (inv y p)))
 
   -- what is left to do from i, is what is left from i - 1 after the step
-  pub up-again : (i : ℕ) → 1 < i → ci ≡ c .constant (i - 1)
+  pub backwardStep-again : (i : ℕ) → 1 < i → ci ≡ c .constant (i - 1)
       → (r .block ≡ backward c b (x .block) (backwardWord c s ci (unstepped c (x .tweak)))) × (r .tweak ≡ unstepped c (x .tweak))
-      → {w : State} → ups c b s i x ≡ w
-      → StateBelow (c .bits) r × (ups c b s (i - 1) r ≡ w)
-  up-again zero l q e inv = absurd (omega arith)
-  up-again (suc i) l q e inv =
-      let step : r ≡ up c b s i x = up-is c b s x i (omega arith) (rw sub-one at q) e in
-      (rw step (up-below k g n i h), rw sub-one (ap (ups c b s i) step ∙ inv))
+      → {w : State} → backwardSteps c b s i x ≡ w
+      → StateBelow (c .bits) r × (backwardSteps c b s (i - 1) r ≡ w)
+  backwardStep-again zero l q e inv = absurd (omega arith)
+  backwardStep-again (suc i) l q e inv =
+      let step : r ≡ backwardStep c b s i x = backwardStep-is c b s x i (omega arith) (rw sub-one at q) e in
+      (rw step (backwardStep-below k g n i h), rw sub-one (ap (backwardSteps c b s i) step ∙ inv))
 
 -- the steps put together
 pub whole : (c : Cipher) (b r : ℕ) (s : Schedule) (t p : Cells) (x : State) (i j : ℕ) {d m : State} {answer : Cells}
-    → d ≡ downs c b s i record { block = added p (s .w0); tweak = t } → i ≡ r
+    → d ≡ forwardSteps c b s i record { block = added p (s .w0); tweak = t } → i ≡ r
     → m ≡ middle c b s d
-    → ups c b s j x ≡ ups c b s i m → j ≡ 1
-    → answer ≡ added (ups c b s 1 x .block) (s .w1)
+    → backwardSteps c b s j x ≡ backwardSteps c b s i m → j ≡ 1
+    → answer ≡ added (backwardSteps c b s 1 x .block) (s .w1)
     → answer ≡ engine c b r s t p
 unfolding engine
 whole c b r s t p x i j {d} {m} {answer} hd hi hm hu hj ha =
-    let left : ups c b s 1 x ≡ ups c b s r m = rw (hi, hj) at hu in
-    let came : m ≡ middle c b s (downs c b s r record { block = added p (s .w0); tweak = t }) = hm ∙ ap (middle c b s) (rw hi at hd) in
-    ha ∙ ap (λ (y : State). added (y .block) (s .w1)) (left ∙ ap (ups c b s r) came)
+    let left : backwardSteps c b s 1 x ≡ backwardSteps c b s r m = rw (hi, hj) at hu in
+    let came : m ≡ middle c b s (forwardSteps c b s r record { block = added p (s .w0); tweak = t }) = hm ∙ ap (middle c b s) (rw hi at hd) in
+    ha ∙ ap (λ (y : State). added (y .block) (s .w1)) (left ∙ ap (backwardSteps c b s r) came)

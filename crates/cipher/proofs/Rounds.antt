@@ -6,7 +6,7 @@ use Rattle.cells.specs.declared.Cells.{Cells}
 use Rattle.cells.proofs.Laws.{added-below, added-twice}
 use Rattle.cells.proofs.Mix.{mixed-added}
 use Rattle.cells.proofs.Lawful.{Lawful, shuffled-below, unshuffled-below, unshuffle-shuffle, shuffle-unshuffle, mix-below, mix-twice, boxed-below, unboxed-below, unbox-boxed, box-unboxed, stepped-below, unstepped-below}
-use Rattle.cipher.specs.Engine.{ScheduleBelow, StateBelow, forward, shortForward, backward, shortBackward, forwardAt, backwardAt, forwardWord, backwardWord, down, downs, centre, middle, up, ups, turned}
+use Rattle.cipher.specs.Engine.{ScheduleBelow, StateBelow, forward, shortForward, backward, shortBackward, forwardAt, backwardAt, forwardWord, backwardWord, forwardStep, forwardSteps, centre, middle, backwardStep, backwardSteps, turned}
 use Rattle.cipher.specs.declared.Schedule.{Schedule}
 use Rattle.cipher.specs.declared.State.{State}
 
@@ -109,17 +109,17 @@ module _ {c : Cipher} (k : Lawful c) {s : Schedule} (g : ScheduleBelow (c .bits)
   backward-word-below p q = added-below (added-below (added-below (g .k0) (k .alpha)) q) p
 
   module _ {b : ℕ} (n : b < 3) where
-    pub down-below : (i : ℕ) {x : State} → StateBelow (c .bits) x → StateBelow (c .bits) (down c b s i x)
-    unfolding down
-    down-below i h =
+    pub forwardStep-below : (i : ℕ) {x : State} → StateBelow (c .bits) x → StateBelow (c .bits) (forwardStep c b s i x)
+    unfolding forwardStep
+    forwardStep-below i h =
         record {
           block = forward-at-below k n (h .block) (forward-word-below (k .constant i) (h .tweak)) i;
           tweak = stepped-below k (h .tweak);
         }
 
-    pub downs-below : (i : ℕ) {x : State} → StateBelow (c .bits) x → StateBelow (c .bits) (downs c b s i x)
-    downs-below zero h = h
-    downs-below (suc i) h = down-below i (downs-below i h)
+    pub forwardSteps-below : (i : ℕ) {x : State} → StateBelow (c .bits) x → StateBelow (c .bits) (forwardSteps c b s i x)
+    forwardSteps-below zero h = h
+    forwardSteps-below (suc i) h = forwardStep-below i (forwardSteps-below i h)
 
     pub middle-below : {x : State} → StateBelow (c .bits) x → StateBelow (c .bits) (middle c b s x)
     unfolding middle
@@ -129,18 +129,18 @@ module _ {c : Cipher} (k : Lawful c) {s : Schedule} (g : ScheduleBelow (c .bits)
           tweak = h .tweak;
         }
 
-    pub up-below : (i : ℕ) {x : State} → StateBelow (c .bits) x → StateBelow (c .bits) (up c b s i x)
-    unfolding up
-    up-below i h =
+    pub backwardStep-below : (i : ℕ) {x : State} → StateBelow (c .bits) x → StateBelow (c .bits) (backwardStep c b s i x)
+    unfolding backwardStep
+    backwardStep-below i h =
         let t = unstepped-below k (h .tweak) in
         record {
           block = backward-at-below k n (h .block) (backward-word-below (k .constant i) t) i;
           tweak = t;
         }
 
-    pub ups-below : (i : ℕ) {x : State} → StateBelow (c .bits) x → StateBelow (c .bits) (ups c b s i x)
-    ups-below zero h = h
-    ups-below (suc i) h = ups-below i (up-below i h)
+    pub backwardSteps-below : (i : ℕ) {x : State} → StateBelow (c .bits) x → StateBelow (c .bits) (backwardSteps c b s i x)
+    backwardSteps-below zero h = h
+    backwardSteps-below (suc i) h = backwardSteps-below i (backwardStep-below i h)
 
   pub turned-below : ScheduleBelow (c .bits) (turned c s)
   unfolding turned

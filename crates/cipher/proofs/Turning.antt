@@ -6,10 +6,10 @@ use Rattle.cells.specs.Cells.{Cipher, Below, added, mixed, stepped, unstepped}
 use Rattle.cells.specs.declared.Cells.{Cells}
 use Rattle.cells.proofs.Laws.{added-below, added-twice}
 use Rattle.cells.proofs.Lawful.{Lawful, mix-twice, unstep-stepped, step-unstepped, unstepped-below}
-use Rattle.cipher.specs.Engine.{ScheduleBelow, StateBelow, backward, forwardAt, backwardAt, forwardWord, backwardWord, down, downs, centre, middle, up, ups, engine, turned}
+use Rattle.cipher.specs.Engine.{ScheduleBelow, StateBelow, backward, forwardAt, backwardAt, forwardWord, backwardWord, forwardStep, forwardSteps, centre, middle, backwardStep, backwardSteps, engine, turned}
 use Rattle.cipher.specs.declared.Schedule.{Schedule}
 use Rattle.cipher.specs.declared.State.{State}
-use Rattle.cipher.proofs.Rounds.{forward-below, centre-below, backward-forward, forward-backward, backward-forward-at, forward-backward-at, forward-word-below, backward-word-below, downs-below, middle-below, up-below, ups-below, centre-twice, turned-below}
+use Rattle.cipher.proofs.Rounds.{forward-below, centre-below, backward-forward, forward-backward, backward-forward-at, forward-backward-at, forward-word-below, backward-word-below, forwardSteps-below, middle-below, backwardStep-below, backwardSteps-below, centre-twice, turned-below}
 
 module _ {c : Cipher} (k : Lawful c) {s : Schedule} (g : ScheduleBelow (c .bits) s) where
   pub turned-twice : turned c (turned c s) ≡ s
@@ -22,9 +22,9 @@ module _ {c : Cipher} (k : Lawful c) {s : Schedule} (g : ScheduleBelow (c .bits)
   words-agree ci t = rw (added-twice (s .k0) (c .alpha) (g .k0 .size))
 
   module _ {b : ℕ} (n : b < 3) where
-    up-down : (i : ℕ) {x : State} → StateBelow (c .bits) x → up c b (turned c s) i (down c b s i x) ≡ x
-    unfolding up down
-    up-down i {x} h =
+    backwardStep-forwardStep : (i : ℕ) {x : State} → StateBelow (c .bits) x → backwardStep c b (turned c s) i (forwardStep c b s i x) ≡ x
+    unfolding backwardStep forwardStep
+    backwardStep-forwardStep i {x} h =
         let e : unstepped c (stepped c (x .tweak)) ≡ x .tweak = unstep-stepped k (h .tweak) in
         let w : backwardWord c (turned c s) (c .constant i) (unstepped c (stepped c (x .tweak))) ≡ forwardWord s (c .constant i) (x .tweak) =
         ap (backwardWord c (turned c s) (c .constant i)) e ∙ words-agree (c .constant i) (x .tweak) in
@@ -33,21 +33,21 @@ module _ {c : Cipher} (k : Lawful c) {s : Schedule} (g : ScheduleBelow (c .bits)
         ∙ backward-forward-at k n (h .block) (forward-word-below k g (k .constant i) (h .tweak)) i in
         λ j. record { block = v j; tweak = e j }
 
-    down-up : (i : ℕ) {x : State} → StateBelow (c .bits) x → down c b (turned c s) i (up c b s i x) ≡ x
-    unfolding up down turned forwardWord backwardWord
-    down-up i {x} h =
+    forwardStep-backwardStep : (i : ℕ) {x : State} → StateBelow (c .bits) x → forwardStep c b (turned c s) i (backwardStep c b s i x) ≡ x
+    unfolding backwardStep forwardStep turned forwardWord backwardWord
+    forwardStep-backwardStep i {x} h =
         λ j. record {
           block = forward-backward-at k n (h .block) (backward-word-below k g (k .constant i) (unstepped-below k (h .tweak))) i j;
           tweak = step-unstepped k (h .tweak) j;
         }
 
-    ups-downs : (i : ℕ) {x : State} → StateBelow (c .bits) x → ups c b (turned c s) i (downs c b s i x) ≡ x
-    ups-downs zero h = refl
-    ups-downs (suc i) h = ap (ups c b (turned c s) i) (up-down i (downs-below k g n i h)) ∙ ups-downs i h
+    backwardSteps-forwardSteps : (i : ℕ) {x : State} → StateBelow (c .bits) x → backwardSteps c b (turned c s) i (forwardSteps c b s i x) ≡ x
+    backwardSteps-forwardSteps zero h = refl
+    backwardSteps-forwardSteps (suc i) h = ap (backwardSteps c b (turned c s) i) (backwardStep-forwardStep i (forwardSteps-below k g n i h)) ∙ backwardSteps-forwardSteps i h
 
-    downs-ups : (i : ℕ) {x : State} → StateBelow (c .bits) x → downs c b (turned c s) i (ups c b s i x) ≡ x
-    downs-ups zero h = refl
-    downs-ups (suc i) h = ap (down c b (turned c s) i) (downs-ups i (up-below k g n i h)) ∙ down-up i h
+    forwardSteps-backwardSteps : (i : ℕ) {x : State} → StateBelow (c .bits) x → forwardSteps c b (turned c s) i (backwardSteps c b s i x) ≡ x
+    forwardSteps-backwardSteps zero h = refl
+    forwardSteps-backwardSteps (suc i) h = ap (forwardStep c b (turned c s) i) (forwardSteps-backwardSteps i (backwardStep-below k g n i h)) ∙ forwardStep-backwardStep i h
 
     middle-twice : {x : State} → StateBelow (c .bits) x → middle c b (turned c s) (middle c b s x) ≡ x
     unfolding middle turned
@@ -64,28 +64,28 @@ module _ {c : Cipher} (k : Lawful c) {s : Schedule} (g : ScheduleBelow (c .bits)
         }
 
     -- the tweak goes its way whatever the schedule is
-    same-tweak : (s1 s2 : Schedule) (i : ℕ) (x y : State) → x .tweak ≡ y .tweak → ups c b s1 i x .tweak ≡ ups c b s2 i y .tweak
-    unfolding up
+    same-tweak : (s1 s2 : Schedule) (i : ℕ) (x y : State) → x .tweak ≡ y .tweak → backwardSteps c b s1 i x .tweak ≡ backwardSteps c b s2 i y .tweak
+    unfolding backwardStep
     same-tweak s1 s2 zero x y e = e
-    same-tweak s1 s2 (suc i) x y e = same-tweak s1 s2 i (up c b s1 i x) (up c b s2 i y) (ap (unstepped c) e)
+    same-tweak s1 s2 (suc i) x y e = same-tweak s1 s2 i (backwardStep c b s1 i x) (backwardStep c b s2 i y) (ap (unstepped c) e)
 
     pub undone : (r : ℕ) {t p : Cells} → Below (c .bits) t → Below (c .bits) p → engine c b r (turned c s) t (engine c b r s t p) ≡ p
     unfolding engine turned middle
     undone r {t} {p} ht hp =
         let start : State = record { block = added p (s .w0); tweak = t } in
         let h : StateBelow (c .bits) start = record { block = added-below hp (g .w0); tweak = ht } in
-        let d : State = downs c b s r start in
-        let hd : StateBelow (c .bits) d = downs-below k g n r h in
+        let d : State = forwardSteps c b s r start in
+        let hd : StateBelow (c .bits) d = forwardSteps-below k g n r h in
         let m : State = middle c b s d in
         let hm : StateBelow (c .bits) m = middle-below k g n hd in
-        let v : State = ups c b s r m in
-        let tw : v .tweak ≡ t = same-tweak s (turned c s) r m d refl ∙ ap (λ (x : State). x .tweak) (ups-downs r h) in
+        let v : State = backwardSteps c b s r m in
+        let tw : v .tweak ≡ t = same-tweak s (turned c s) r m d refl ∙ ap (λ (x : State). x .tweak) (backwardSteps-forwardSteps r h) in
         let again : _≡_ {A = State} record { block = added (added (v .block) (s .w1)) (s .w1); tweak = t } v =
-        λ j. record { block = added-twice (v .block) (s .w1) (ups-below k g n r hm .block .size) j; tweak = sym tw j } in
-        ap (λ (x : State). added (ups c b (turned c s) r (middle c b (turned c s) (downs c b (turned c s) r x)) .block) (s .w0)) again
-        ∙ ap (λ (x : State). added (ups c b (turned c s) r (middle c b (turned c s) x) .block) (s .w0)) (downs-ups r hm)
-        ∙ ap (λ (x : State). added (ups c b (turned c s) r x .block) (s .w0)) (middle-twice hd)
-        ∙ ap (λ (x : State). added (x .block) (s .w0)) (ups-downs r h)
+        λ j. record { block = added-twice (v .block) (s .w1) (backwardSteps-below k g n r hm .block .size) j; tweak = sym tw j } in
+        ap (λ (x : State). added (backwardSteps c b (turned c s) r (middle c b (turned c s) (forwardSteps c b (turned c s) r x)) .block) (s .w0)) again
+        ∙ ap (λ (x : State). added (backwardSteps c b (turned c s) r (middle c b (turned c s) x) .block) (s .w0)) (forwardSteps-backwardSteps r hm)
+        ∙ ap (λ (x : State). added (backwardSteps c b (turned c s) r x .block) (s .w0)) (middle-twice hd)
+        ∙ ap (λ (x : State). added (x .block) (s .w0)) (backwardSteps-forwardSteps r h)
         ∙ added-twice p (s .w0) (hp .size)
 
 -- the other order: the turned schedule's turn is the first schedule
@@ -98,4 +98,4 @@ pub engine-below : {c : Cipher} (k : Lawful c) {s : Schedule} (g : ScheduleBelow
     → Below (c .bits) t → Below (c .bits) p → Below (c .bits) (engine c b r s t p)
 unfolding engine
 engine-below k g n r ht hp =
-    added-below (ups-below k g n r (middle-below k g n (downs-below k g n r record { block = added-below hp (g .w0); tweak = ht })) .block) (g .w1)
+    added-below (backwardSteps-below k g n r (middle-below k g n (forwardSteps-below k g n r record { block = added-below hp (g .w0); tweak = ht })) .block) (g .w1)

@@ -1,4 +1,4 @@
--- Document 01, "The engine", over the cell width: schedule, rounds, the seven steps, turning.
+-- Document 01, "The engine", over the cell width: schedule, rounds, the seven steps, turning. Document 000 has it in 2.2 (key), 2.3 to 2.6 (rounds and centre) and Figure 3; its M and Q are one mix here.
 use Prim.Native.Nat.{ℕ, zero, suc, _+_, _-_, _*_, _/_, _%_, _^_}
 use Rattle.words.specs.Digits.{_⊕_}
 use Rattle.cells.specs.Cells.{Cipher, Below, cut, added, looked, shuffled, unshuffled, mixed, stepped, unstepped}
@@ -39,7 +39,7 @@ forward c b x t = looked (c .box b) (mixed c (shuffled (added x t)))
 unfoldable pub shortForward : Cipher → ℕ → Cells → Cells → Cells
 shortForward c b x t = looked (c .box b) (added x t)
 
--- "A backward round is the exact inverse, steps in reverse order with the inverse box."
+-- "A backward round is the exact inverse, steps in reverse order with the inverse box." "The mix is its own inverse."
 unfoldable pub backward : Cipher → ℕ → Cells → Cells → Cells
 backward c b x t = added (unshuffled (mixed c (looked (c .unbox b) x))) t
 
@@ -55,7 +55,7 @@ abbrev pub backwardAt : Cipher → ℕ → ℕ → Cells → Cells → Cells
 backwardAt c b zero x t = shortBackward c b x t
 backwardAt c b (suc i) x t = backward c b x t
 
--- "k0 + tweak + ci", and "k0 + alpha + tweak + ci", with the constant ci as it stands
+-- "k0 + tweak + ci", and "k0 + alpha + tweak + ci", for a constant ci
 unfoldable pub forwardWord : Schedule → Cells → Cells → Cells
 forwardWord s ci t = added (added (s .k0) t) ci
 
@@ -63,17 +63,17 @@ unfoldable pub backwardWord : Cipher → Schedule → Cells → Cells → Cells
 backwardWord c s ci t = added (added (added (s .k0) (c .alpha)) t) ci
 
 -- Step 2, for one i: "forward round with k0 + tweak + ci (short for i = 0), then step the tweak"
-unfoldable pub down : Cipher → ℕ → Schedule → ℕ → State → State
-down c b s i x =
+unfoldable pub forwardStep : Cipher → ℕ → Schedule → ℕ → State → State
+forwardStep c b s i x =
     record {
       block = forwardAt c b i (x .block) (forwardWord s (c .constant i) (x .tweak));
       tweak = stepped c (x .tweak);
     }
 
 -- "For i from 0 to r-1"
-abbrev pub downs : Cipher → ℕ → Schedule → ℕ → State → State
-downs c b s zero x = x
-downs c b s (suc i) x = down c b s i (downs c b s i x)
+abbrev pub forwardSteps : Cipher → ℕ → Schedule → ℕ → State → State
+forwardSteps c b s zero x = x
+forwardSteps c b s (suc i) x = forwardStep c b s i (forwardSteps c b s i x)
 
 -- Step 4: "Shuffle, mix, add k1, undo the shuffle"
 unfoldable pub centre : Cipher → Cells → Cells → Cells
@@ -88,22 +88,22 @@ middle c b s x =
     }
 
 -- Step 6, for one i: "step the tweak back, backward round with k0 + alpha + tweak + ci (short for i = 0)"
-unfoldable pub up : Cipher → ℕ → Schedule → ℕ → State → State
-up c b s i x =
+unfoldable pub backwardStep : Cipher → ℕ → Schedule → ℕ → State → State
+backwardStep c b s i x =
     record {
       block = backwardAt c b i (x .block) (backwardWord c s (c .constant i) (unstepped c (x .tweak)));
       tweak = unstepped c (x .tweak);
     }
 
 -- "For i from r-1 down to 0"
-abbrev pub ups : Cipher → ℕ → Schedule → ℕ → State → State
-ups c b s zero x = x
-ups c b s (suc i) x = ups c b s i (up c b s i x)
+abbrev pub backwardSteps : Cipher → ℕ → Schedule → ℕ → State → State
+backwardSteps c b s zero x = x
+backwardSteps c b s (suc i) x = backwardSteps c b s i (backwardStep c b s i x)
 
 -- "Steps of the engine": 1. "Add w0 to the block." 2 to 6 as above. 7. "Add w1."
 unfoldable pub engine : Cipher → ℕ → ℕ → Schedule → Cells → Cells → Cells
 engine c b r s t p =
-    added (ups c b s r (middle c b s (downs c b s r record { block = added p (s .w0); tweak = t })) .block) (s .w1)
+    added (backwardSteps c b s r (middle c b s (forwardSteps c b s r record { block = added p (s .w0); tweak = t })) .block) (s .w1)
 
 -- "Turning (w0, w1, k0, k1) gives (w1, w0, k0 + alpha, mix of k1)."
 unfoldable pub turned : Cipher → Schedule → Schedule

@@ -1,4 +1,4 @@
--- QARMA-64 on numbers of 64 bits: "The pad's firmware .. calls the library directly, passing only numbers and byte slices".
+-- Document 01, "The engine", on numbers of 64 bits: "keys, tweaks, blocks and schedule words pass in as 64-bit numbers".
 use Prim.Native.Nat.{ℕ}
 use Rattle.words.specs.Cases.{ifLe}
 use Rattle.refusals.specs.declared.Refusal.the-variants.{Settings}
@@ -28,7 +28,7 @@ turnedWords s = wordsOf (turned qarma64 (cutWords s))
 abbrev pub engineWord : ℕ → ℕ → Schedule → ℕ → ℕ → ℕ
 engineWord b r s t p = joined 4 (engine qarma64 b r s (cut 4 t) (cut 4 p))
 
--- "box number 0, 1 or 2; rounds r from 3 to 8": else refusal 1
+-- Document 01, "Sizes": "box number 0, 1 or 2; rounds r from 3 to 8", else refusal 1
 unfoldable pub ran : ℕ → ℕ → Schedule → ℕ → ℕ → Block
 ran b r s t p =
     ifLe b 2 (ifLe 3 r (ifLe r 8 (Word (engineWord b r s t p)) (Refused Settings)) (Refused Settings)) (Refused Settings)

@@ -5,7 +5,7 @@ ghost use mathlib.Core.Path.{_≡_};
 ghost use Prim.Native.Nat.{_<_, _≤_};
 ghost use Rattle.cells.specs.Cells.{Below, added, stepped, unstepped};
 ghost use Rattle.cells.specs.Qarma64.{qarma64};
-ghost use Rattle.cipher.specs.Engine.{ScheduleBelow, StateBelow, outer, keySchedule, forward, shortForward, backward, shortBackward, forwardWord, backwardWord, downs, middle, ups, engine, turned};
+ghost use Rattle.cipher.specs.Engine.{ScheduleBelow, StateBelow, outer, keySchedule, forward, shortForward, backward, shortBackward, forwardWord, backwardWord, forwardSteps, middle, backwardSteps, engine, turned};
 ghost use Rattle.cipher.specs.Words.{cutWords, wordsOf, keyWords, turnedWords, ran, engineCall, encipherCall, decipherCall};
 
 // The constants c0 to c7, in cells.
@@ -58,7 +58,7 @@ fn outer_word(w0: u64) -> u64
     ((w0 << 63) | (w0 >> 1)) ^ (w0 >> 63)
 }
 
-// Alpha.
+// Alpha as cells.
 fn alpha() -> Cells
     ensures { λ r. ⌜ r ≡ qarma64 .alpha ⌝ }
 {
@@ -73,7 +73,7 @@ fn forward_round(number: u64, x: Cells, word: Cells) -> Cells
     x.add(word).shuffle().mix().boxed(number)
 }
 
-// Its short form.
+// The short form of a forward round.
 fn short_forward_round(number: u64, x: Cells, word: Cells) -> Cells
     requires { ⌜ (number < 3) × (Below 4 x × Below 4 word) ⌝ }
     ensures { λ r. ⌜ r ≡ shortForward qarma64 number x word ⌝ }
@@ -89,7 +89,7 @@ fn backward_round(number: u64, x: Cells, word: Cells) -> Cells
     x.unboxed(number).mix().unshuffle().add(word)
 }
 
-// Its short form.
+// The short form of a backward round.
 fn short_backward_round(number: u64, x: Cells, word: Cells) -> Cells
     requires { ⌜ (number < 3) × Below 4 x ⌝ }
     ensures { λ r. ⌜ r ≡ shortBackward qarma64 number x word ⌝ }
@@ -172,7 +172,7 @@ impl Schedule {
     }
 
     // Step 2 for an i above 0: the forward round, then the tweak step.
-    fn down(self, number: u64, constant: Cells, state: State) -> State
+    fn forward_step(self, number: u64, constant: Cells, state: State) -> State
         requires { ⌜ (number < 3) × (ScheduleBelow 4 self × (Below 4 constant × StateBelow 4 state)) ⌝ }
         ensures { λ r. ⌜ (r .block ≡ forward qarma64 number (state .block) (forwardWord self constant (state .tweak))) × (r .tweak ≡ stepped qarma64 (state .tweak)) ⌝ }
     {
@@ -204,7 +204,7 @@ impl Schedule {
     }
 
     // Step 6 for an i above 0: the tweak is stepped back, then the backward round.
-    fn up(self, number: u64, constant: Cells, state: State) -> State
+    fn backward_step(self, number: u64, constant: Cells, state: State) -> State
         requires { ⌜ (number < 3) × StateBelow 4 state ⌝ }
         ensures { λ r. ⌜ (r .block ≡ backward qarma64 number (state .block) (backwardWord qarma64 self constant (unstepped qarma64 (state .tweak)))) × (r .tweak ≡ unstepped qarma64 (state .tweak)) ⌝ }
     {
@@ -220,7 +220,7 @@ impl Schedule {
     // Step 1, and step 2 for i = 0.
     fn first(self, number: u64, tweak: Cells, block: Cells) -> State
         requires { ⌜ (number < 3) × (ScheduleBelow 4 self × (Below 4 tweak × Below 4 block)) ⌝ }
-        ensures { λ r. ⌜ r ≡ downs qarma64 number self 1 record { block = added block (self .w0); tweak = tweak } ⌝ }
+        ensures { λ r. ⌜ r ≡ forwardSteps qarma64 number self 1 record { block = added block (self .w0); tweak = tweak } ⌝ }
     {
         let w0 = self.w0;
         let constant = Cells { at: CONSTANTS[0] };
@@ -233,7 +233,7 @@ impl Schedule {
     // Step 6 for i = 0, and step 7.
     fn last(self, number: u64, state: State) -> Cells
         requires { ⌜ (number < 3) × StateBelow 4 state ⌝ }
-        ensures { λ r. ⌜ r ≡ added (ups qarma64 number self 1 state .block) (self .w1) ⌝ }
+        ensures { λ r. ⌜ r ≡ added (backwardSteps qarma64 number self 1 state .block) (self .w1) ⌝ }
     {
         let w1 = self.w1;
         let constant = Cells { at: CONSTANTS[0] };
@@ -251,13 +251,13 @@ impl Schedule {
         let mut state = self.first(number, tweak, block);
         let mut i = 1;
         while i < rounds {
-            state = self.down(number, Cells { at: constants[i] }, state);
+            state = self.forward_step(number, Cells { at: constants[i] }, state);
             i += 1;
         }
         state = self.middle(number, state);
         while i > 1 {
             i -= 1;
-            state = self.up(number, Cells { at: constants[i] }, state);
+            state = self.backward_step(number, Cells { at: constants[i] }, state);
         }
         self.last(number, state)
     }

@@ -1,7 +1,7 @@
 -- Demand 2 for frames: "Opening accepts a frame exactly when sealing some message of the stated length under that key, serial and label produces it, and hands out that message."
-use mathlib.Core.Bool.{Bool, true, false, false≢true}
+use mathlib.Core.Bool.{Bool, true, false}
 use mathlib.Core.Path.{_≡_, refl, sym, ap, ap₂, subst, _∙_}
-use mathlib.Core.List.{List, _++_}
+use mathlib.Core.List.{List, [], _∷_, _++_}
 use mathlib.Core.Logic.{_⊎_, inl, inr}
 use Prim.Native.Nat.{ℕ, zero, suc, _+_, _-_, _*_, _/_, _%_, _^_, _<_, _≤_}
 use native.Mathlib.Nat.{eq-zero-or-pos, mul-mod-left}
@@ -17,6 +17,7 @@ use Rattle.words.proofs.Laws.{le-case, gt-case, yes-case, no-case}
 use Rattle.refusals.specs.declared.Answer.{Answer}
 use Rattle.refusals.specs.declared.Answer.the-variants.{Wrote, Refused}
 use Rattle.refusals.specs.declared.Refusal.the-variants.{SealedSize, Room, Disagrees}
+use Rattle.refusals.proofs.Answers.{not-both, among, Can, can-refused, can-wrote, can-same, can-le, can-yes}
 use Rattle.cells.specs.Qarma64.{qarma64}
 use Rattle.cipher.specs.Engine.{ScheduleBelow, keySchedule, turned}
 use Rattle.cipher.specs.declared.Schedule.{Schedule}
@@ -24,11 +25,8 @@ use Rattle.cipher.proofs.Demands.{key-below}
 use Rattle.frame.specs.Blocks.{blocks, part, tweak, purpose}
 use Rattle.frame.specs.Frames.{enciphered, sealedSize, sealedBytes, sealing, openedBlock, openedMessage, accepted, opening, SealedFrom, Within}
 use Rattle.frame.proofs.Fills.{fill-found}
+use Rattle.frame.proofs.Limits.{goes-on, can-limited}
 use Rattle.frame.proofs.Opening.{accepted-sealed, accepted-both, sealed-size, sealed-accepted, sealed-message}
-
-abbrev wrote : Answer → Bool
-wrote (Wrote n) = true
-wrote (Refused r) = false
 
 yes-or-no : (t : Bool) → (t ≡ true) ⊎ (t ≡ false)
 yes-or-no true = inl refl
@@ -47,11 +45,7 @@ module _ (w0 k0 serial : ℕ) (a : List ℕ) where
       → sealing w0 k0 serial a m out ≡ (Wrote (sealedSize (length m)), sealedBytes s serial a m ++ drop (sealedSize (length m)) out)
   unfolding sealing
   seals m out h room =
-      sym
-      (le-case (sealedSize (length m)) (length out) _ _ room
-      ∙ le-case serial (2 ^ 44 - 1) _ _ (h .frame)
-      ∙ le-case (length a) 32 _ _ (h .label)
-      ∙ le-case (length m) 1024 _ _ (h .message))
+      sym (le-case (sealedSize (length m)) (length out) _ _ room ∙ goes-on serial a (length m) out _ h)
 
   module _ (n : ℕ) (c out : List ℕ) (h : Within serial a n) where
     abbrev found : Answer × List ℕ
@@ -63,9 +57,7 @@ module _ (w0 k0 serial : ℕ) (a : List ℕ) where
         sym
         (le-case n (length out) found _ room
         ∙ yes-case (eqb (length c) (sealedSize n)) _ _ (eq-eqb (length c) (sealedSize n) e)
-        ∙ le-case serial (2 ^ 44 - 1) _ _ (h .frame)
-        ∙ le-case (length a) 32 _ _ (h .label)
-        ∙ le-case n 1024 _ _ (h .message))
+        ∙ goes-on serial a n out _ h)
 
     -- opening accepts what was sealed, and hands out the message
     pub opens : n ≤ length out → (x : SealedFrom s serial a n c) → opening w0 k0 serial n a c out ≡ (Wrote n, x .message ++ drop n out)
@@ -88,9 +80,7 @@ module _ (w0 k0 serial : ℕ) (a : List ℕ) where
     refuses-size other =
         sym
         (no-case (eqb (length c) (sealedSize n)) _ (Refused SealedSize, out) (ne-eqb (length c) (sealedSize n) other)
-        ∙ le-case serial (2 ^ 44 - 1) _ _ (h .frame)
-        ∙ le-case (length a) 32 _ _ (h .label)
-        ∙ le-case n 1024 _ _ (h .message))
+        ∙ goes-on serial a n out _ h)
 
     -- without the room, refusal 5
     pub no-room : length c ≡ sealedSize n → length out < n → opening w0 k0 serial n a c out ≡ (Refused Room, out)
@@ -99,22 +89,36 @@ module _ (w0 k0 serial : ℕ) (a : List ℕ) where
         sym
         (gt-case n (length out) _ (Refused Room, out) small
         ∙ yes-case (eqb (length c) (sealedSize n)) _ _ (eq-eqb (length c) (sealedSize n) e)
-        ∙ le-case serial (2 ^ 44 - 1) _ _ (h .frame)
-        ∙ le-case (length a) 32 _ _ (h .label)
-        ∙ le-case n 1024 _ _ (h .message))
+        ∙ goes-on serial a n out _ h)
+
+    -- inside the limits and with the right number of sealed bytes, 5 and 6 are left
+    pub can-five-six : {ns : List ℕ} → among 5 ns ≡ true → among 6 ns ≡ true → length c ≡ sealedSize n → Can ns out (opening w0 k0 serial n a c out)
+    can-five-six five six e =
+        elim (eq-zero-or-pos (n - length out)) [
+          | inl z ↦ can-same (within (omega arith) e) (can-yes _ can-wrote (can-refused Disagrees six))
+          | inr z ↦ can-same (no-room e (omega arith)) (can-refused Room five)
+        ]
 
     pub opens-only : n ≤ length out → Digits 8 c → (k : ℕ) (o : List ℕ) → opening w0 k0 serial n a c out ≡ (Wrote k, o) → SealedFrom s serial a n c
     opens-only room hc k o opened =
-        let never : (r : Answer × List ℕ) → wrote (r .0) ≡ false → opening w0 k0 serial n a c out ≡ r → ⊥ =
-        λ r f e. false≢true (sym f ∙ ap (λ (x : Answer × List ℕ). wrote (x .0)) (sym e ∙ opened)) in
         elim (yes-or-no (eqb (length c) (sealedSize n))) [
           | inl y ↦
               elim (yes-or-no (accepted s serial a n c)) [
                 | inl z ↦ accepted-sealed g serial a n hc (eqb-true _ _ y) z
-                | inr z ↦ absurd (never (Refused Disagrees, out) refl (within room (eqb-true _ _ y) ∙ sym (no-case (accepted s serial a n c) _ (Refused Disagrees, out) z)))
+                | inr z ↦ absurd (not-both (sym opened ∙ within room (eqb-true _ _ y) ∙ sym (no-case (accepted s serial a n c) _ (Refused Disagrees, out) z)))
               ]
-          | inr y ↦ absurd (never (Refused SealedSize, out) refl (refuses-size (eqb-false _ _ y)))
+          | inr y ↦ absurd (not-both (sym opened ∙ refuses-size (eqb-false _ _ y)))
         ]
+
+  -- "Sealing can give 2, 3, 5"
+  pub seal-can : (m out : List ℕ) → Can (2 ∷ 3 ∷ 5 ∷ []) out (sealing w0 k0 serial a m out)
+  unfolding sealing
+  seal-can m out = can-limited _ _ _ refl refl (can-le _ _ can-wrote (can-refused Room refl))
+
+  -- "opening 2 to 6"
+  pub open-can : (n : ℕ) (c out : List ℕ) → Can (2 ∷ 3 ∷ 4 ∷ 5 ∷ 6 ∷ []) out (opening w0 k0 serial n a c out)
+  unfolding opening
+  open-can n c out = can-limited _ _ _ refl refl (can-yes _ (can-le _ _ (can-yes _ can-wrote (can-refused Disagrees refl)) (can-refused Room refl)) (can-refused SealedSize refl))
 
   -- "opening what was sealed gives the message back": sealed into one memory, opened into another
   pub comes-back : (m out into : List ℕ) → Digits 8 m → Within serial a (length m) → sealedSize (length m) ≤ length out → length m ≤ length into

@@ -2,5 +2,6 @@ pub mod Laws
 pub mod Parts
 pub mod Fills
 pub mod Opening
+pub mod Limits
 pub mod Demands
 pub mod Outcomes

@@ -15,9 +15,9 @@ use Rattle.cells.specs.Qarma64.{qarma64}
 use Rattle.cipher.specs.Engine.{keySchedule, turned}
 use Rattle.cipher.specs.Words.{engineWord}
 use Rattle.cipher.specs.declared.Schedule.{Schedule}
-use Rattle.frame.specs.Blocks.{blocks, part, filled, block, tweak, purpose, tagPurpose}
+use Rattle.frame.specs.Blocks.{blocks, part, block, tweak, purpose, tagPurpose}
 
--- "Frames use box 1 and r = 7."
+-- Document 01, "Sizes": "Frames use box 1 and r = 7." The label is called a here, the sealed bytes c, and n is the length of the message.
 abbrev pub enciphered : Schedule → ℕ → ℕ → ℕ
 enciphered s t p = engineWord 1 7 s t p
 
@@ -32,7 +32,7 @@ labelSum s serial a = sum (blocks (length a)) (sealedBlock s 2 serial a)
 -- "For the tag, the engine runs on the sum of all message blocks alone ..; to its answer the sum of all enciphered label blocks .. is then added.";
 -- "for the tag" the index is "the number of message blocks"
 abbrev pub tagOf : Schedule → ℕ → List ℕ → ℕ → ℕ → ℕ
-tagOf s serial a n total = enciphered s (tweak (tagPurpose n) serial (blocks n)) total ⊕ labelSum s serial a
+tagOf s serial a n messageSum = enciphered s (tweak (tagPurpose n) serial (blocks n)) messageSum ⊕ labelSum s serial a
 
 -- "The sealed bytes are the enciphered blocks and then the 8 tag bytes."
 abbrev pub sealedSize : ℕ → ℕ
@@ -43,18 +43,24 @@ sealedBytes s serial a m =
     laid (blocks (length m)) (sealedBlock s 0 serial m)
     ++ digits 8 8 (tagOf s serial a (length m) (sum (blocks (length m)) (block m)))
 
--- Sealing: refusals 2, 3, 5 in this order, or the sealed bytes in the place of the first bytes of the output
-unfoldable pub sealing : ℕ → ℕ → ℕ → List ℕ → List ℕ → List ℕ → Answer × List ℕ
-sealing w0 k0 serial a m out =
-    ifLe (length m) 1024
+-- "message 0 to 1,024 bytes; label (the associated data) 0 to 32 bytes; serial 0 to 2^44 - 1": refusals 2 and 3 of a message of n bytes, or what comes after them
+unfoldable pub limited : ℕ → List ℕ → ℕ → List ℕ → Answer × List ℕ → Answer × List ℕ
+limited serial a n out x =
+    ifLe n 1024
     (ifLe (length a) 32
     (ifLe serial (2 ^ 44 - 1)
-    (ifLe (sealedSize (length m)) (length out)
-    (Wrote (sealedSize (length m)), sealedBytes (keySchedule 4 w0 k0) serial a m ++ drop (sealedSize (length m)) out)
-    (Refused Room, out))
+    x
     (Refused Serial, out))
     (Refused Length, out))
     (Refused Length, out)
+
+-- "Sealing can give 2, 3, 5", in this order; else the sealed bytes, in the place of the first bytes of the output
+unfoldable pub sealing : ℕ → ℕ → ℕ → List ℕ → List ℕ → List ℕ → Answer × List ℕ
+sealing w0 k0 serial a m out =
+    limited serial a (length m) out
+    (ifLe (sealedSize (length m)) (length out)
+    (Wrote (sealedSize (length m)), sealedBytes (keySchedule 4 w0 k0) serial a m ++ drop (sealedSize (length m)) out)
+    (Refused Room, out))
 
 -- Opening: block i of the sealed bytes c of a message of n bytes, under the turned schedule u
 abbrev pub openedBlock : Schedule → ℕ → ℕ → List ℕ → ℕ → ℕ
@@ -75,12 +81,10 @@ accepted s serial a n c =
     (eqb (tagOf s serial a n (sum (blocks n) (openedBlock (turned qarma64 s) serial n c))) (word 8 (part c (blocks n))))
     false
 
--- Opening: refusals 2 to 6 in this order, or "the first bytes up to the message length" in the place of the first bytes of the output
+-- "opening 2 to 6", in this order; else "the first bytes up to the message length", in the place of the first bytes of the output
 unfoldable pub opening : ℕ → ℕ → ℕ → ℕ → List ℕ → List ℕ → List ℕ → Answer × List ℕ
 opening w0 k0 serial n a c out =
-    ifLe n 1024
-    (ifLe (length a) 32
-    (ifLe serial (2 ^ 44 - 1)
+    limited serial a n out
     (ifYes (eqb (length c) (sealedSize n))
     (ifLe n (length out)
     (ifYes (accepted (keySchedule 4 w0 k0) serial a n c)
@@ -88,17 +92,14 @@ opening w0 k0 serial n a c out =
     (Refused Disagrees, out))
     (Refused Room, out))
     (Refused SealedSize, out))
-    (Refused Serial, out))
-    (Refused Length, out))
-    (Refused Length, out)
 
--- Demand 2 for frames: "inputs inside the limits"
-pub record Within (serial : ℕ) (a : List ℕ) (n : ℕ) : Type 0 where
+-- Demand 2 for frames (docs/CONTRACTS.md): inputs inside the limits
+pub record Within (x : ℕ) (a : List ℕ) (n : ℕ) : Type 0 where
   pub message : n ≤ 1024
   pub label : length a ≤ 32
-  pub frame : serial ≤ 2 ^ 44 - 1
+  pub serial : x ≤ 2 ^ 44 - 1
 
--- Demand 2: "sealing some message of the stated length under that key, serial and label produces it": a message of n bytes whose sealed bytes are c
+-- Demand 2 (docs/CONTRACTS.md): sealing some message of the stated length under that key, serial and label produces it: a message of n bytes whose sealed bytes are c
 pub record SealedFrom (s : Schedule) (serial : ℕ) (a : List ℕ) (n : ℕ) (c : List ℕ) : Type 0 where
   pub message : List ℕ
   pub bytes : Digits 8 message

@@ -122,13 +122,13 @@ fn sum_label(s: Schedule, serial: u64, label: &[u8]) -> u64
 }
 
 // The tag of a message of n bytes, from the sum of its blocks.
-fn tag(s: Schedule, serial: u64, label: &[u8], n: usize, total: u64) -> u64
+fn tag(s: Schedule, serial: u64, label: &[u8], n: usize, message_sum: u64) -> u64
     requires { ⌜ ScheduleBelow 4 s × ((serial < 2 ^ 44) × ((length (now label) ≤ 1024) × (n ≤ 1024))) ⌝ }
-    ensures { λ r. ⌜ r ≡ tagOf s serial (now (label .entry)) n total ⌝ }
+    ensures { λ r. ⌜ r ≡ tagOf s serial (now (label .entry)) n «message_sum» ⌝ }
 {
     let index = (n + 7) / 8;
     let t = tweak_of(tag_purpose(n), serial, index as u64);
-    encipher(s, t, total) ^ sum_label(s, serial, label)
+    encipher(s, t, message_sum) ^ sum_label(s, serial, label)
 }
 
 // Writes each enciphered block of a message into its own place of out.

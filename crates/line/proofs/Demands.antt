@@ -1,6 +1,5 @@
 -- Demand 2 for a line: it opens exactly when writing some message under that key gives it. And what writing gives is a good line, whose fields are what went in.
 use Prim.Native.Nat.{ℕ, zero, suc, _+_, _-_, _*_, _^_, _≤_, _<_}
-use mathlib.Core.Bool.{Bool, true, false, false≢true}
 use mathlib.Core.Path.{_≡_, refl, sym, ap, ap₂, _∙_}
 use mathlib.Core.List.{List, [], _∷_, _++_, append-assoc}
 use mathlib.Core.Logic.{_⊎_, inl, inr}
@@ -11,12 +10,14 @@ use Rattle.words.specs.Digits.{Digits, none, more}
 use Rattle.words.proofs.Laws.{le-case}
 use Rattle.refusals.specs.declared.Answer.{Answer}
 use Rattle.refusals.specs.declared.Answer.the-variants.{Wrote, Refused}
-use Rattle.refusals.specs.declared.Refusal.the-variants.{Line}
+use Rattle.refusals.specs.declared.Refusal.the-variants.{Room, Line}
+use Rattle.refusals.proofs.Answers.{not-both, Can, can-refused, can-wrote, can-same, can-le}
 use Rattle.cipher.specs.Engine.{keySchedule}
 use Rattle.cipher.proofs.Demands.{key-below}
 use Rattle.frame.specs.Frames.{sealedSize, sealedBytes, opening, SealedFrom, Within}
 use Rattle.frame.proofs.Opening.{sealed-length, sealed-below}
-use Rattle.frame.proofs.Demands.{opens, opens-only, no-room}
+use Rattle.frame.proofs.Limits.{can-limited}
+use Rattle.frame.proofs.Demands.{opens, opens-only, no-room, can-five-six}
 use Rattle.line.specs.Line.{hexDigits, hex, Frame, Limits, LineOf, lineOf, GoodLine, Place, fieldsOf, Reads, fields, refused}
 use Rattle.line.specs.Reader.{numberAt, bytesAt, reading}
 use Rattle.line.specs.Calls.{frameOf, lineSize, lineGiven, writing, openingAs, openingLine, WrittenFrom}
@@ -72,9 +73,28 @@ pub not-a-line : (w0 k0 : ℕ) (s out : List ℕ) (k : ℕ) → (GoodLine s → 
 unfolding openingLine
 not-a-line w0 k0 s out k n p = ap (λ (r : Reading). openingAs w0 k0 s r out) (sym (reads-reading s (NotLine k) (refused k n p)))
 
-abbrev wrote : Answer → Bool
-wrote (Wrote n) = true
-wrote (Refused r) = false
+-- "A line is 37 to 2,149 bytes with its end."
+pub line-sizes : (s : List ℕ) → GoodLine s → (37 ≤ length s) × (length s ≤ 2149)
+line-sizes s (f, l) =
+    let size : length s ≡ lineSize (length (f .label)) (length (f .sealed)) = ap length (l .line) ∙ line-length f in
+    let h = l .limits in
+    (omega (arith, size, h .sealed), omega (arith, size, h .sealed, h .label, h .message))
+
+-- "Writing a line .. can give 2, 3, 5"
+pub write-can : (w0 k0 serial : ℕ) (a m out : List ℕ) → Can (2 ∷ 3 ∷ 5 ∷ []) out (writing w0 k0 serial a m out)
+unfolding writing lineGiven
+write-can w0 k0 serial a m out = can-limited _ _ _ refl refl (can-le _ _ can-wrote (can-refused Room refl))
+
+-- opening a line can give 7, 5, 6: what the reader takes is inside the limits and has the right number of sealed bytes
+pub open-line-can : (w0 k0 : ℕ) (s out : List ℕ) → Can (7 ∷ 5 ∷ 6 ∷ []) out (openingLine w0 k0 s out)
+open-line-can w0 k0 s out = go (reading s) (reading-reads s)
+  where
+    go : (r : Reading) → Reads s r → Can (7 ∷ 5 ∷ 6 ∷ []) out (openingLine w0 k0 s out)
+    go r (refused k n p) = can-same (not-a-line w0 k0 s out k n p) (can-refused (Line k) refl)
+    go r (fields f l) =
+        let h = l .limits in
+        can-same (passes-on w0 k0 s out f l)
+        (can-five-six w0 k0 (f .serial) (f .label) (f .message) (f .sealed) out (record { message = h .message; label = h .label; serial = omega (arith, h .serial) }) refl refl (h .sealed))
 
 module _ {w0 k0 : ℕ} {s : List ℕ} where
   -- what is written is a good line, whose fields are what went in
@@ -86,7 +106,7 @@ module _ {w0 k0 : ℕ} {s : List ℕ} where
       record {
         limits =
             record {
-              serial = omega (arith, x .within .frame);
+              serial = omega (arith, x .within .serial);
               label = x .within .label;
               message = x .within .message;
               sealed = sealed-length (keySchedule 4 w0 k0) (x .serial) (x .label) (x .message);
@@ -118,15 +138,15 @@ module _ {w0 k0 : ℕ} {s : List ℕ} where
 
   -- and no other line opens
   opened-as : (out : List ℕ) (r : Reading) → Reads s r → (k : ℕ) (o : List ℕ) → openingLine w0 k0 s out ≡ (Wrote k, o) → WrittenFrom w0 k0 s
-  opened-as out r (refused p n q) k o e = absurd (false≢true (ap (λ (x : Answer × List ℕ). wrote (x .0)) (sym (not-a-line w0 k0 s out p n q) ∙ e)))
+  opened-as out r (refused p n q) k o e = absurd (not-both (sym e ∙ not-a-line w0 k0 s out p n q))
   opened-as out r (fields f l) k o e =
       let h = l .limits in
-      let w : Within (f .serial) (f .label) (f .message) = record { message = h .message; label = h .label; frame = omega (arith, h .serial) } in
+      let w : Within (f .serial) (f .label) (f .message) = record { message = h .message; label = h .label; serial = omega (arith, h .serial) } in
       let opened : opening w0 k0 (f .serial) (f .message) (f .label) (f .sealed) out ≡ (Wrote k, o) = sym (passes-on w0 k0 s out f l) ∙ e in
       let x : SealedFrom (keySchedule 4 w0 k0) (f .serial) (f .label) (f .message) (f .sealed) =
       elim (eq-zero-or-pos (f .message - length out)) [
         | inl z ↦ opens-only w0 k0 (f .serial) (f .label) (f .message) (f .sealed) out w (omega arith) (h .sealed-bytes) k o opened
-        | inr z ↦ absurd (false≢true (ap (λ (y : Answer × List ℕ). wrote (y .0)) (sym (no-room w0 k0 (f .serial) (f .label) (f .message) (f .sealed) out w (h .sealed) (omega arith)) ∙ opened)))
+        | inr z ↦ absurd (not-both (sym opened ∙ no-room w0 k0 (f .serial) (f .label) (f .message) (f .sealed) out w (h .sealed) (omega arith)))
       ] in
       record {
         serial = f .serial;
@@ -134,7 +154,7 @@ module _ {w0 k0 : ℕ} {s : List ℕ} where
         message = x .message;
         label-bytes = h .label-bytes;
         message-bytes = x .bytes;
-        within = record { message = omega (arith, x .size, h .message); label = h .label; frame = w .frame };
+        within = record { message = omega (arith, x .size, h .message); label = h .label; serial = w .serial };
         line = l .line ∙ ap₂ (λ (n : ℕ) (c : List ℕ). lineOf (frameOf (f .serial) (f .label) n c)) (sym (x .size)) (sym (x .sealed));
       }
 

@@ -196,6 +196,10 @@ shape-short s h =
     let m : (messageLength s + 7) / 8 ≤ 128 = le-of-suc-le-suc (div-lt-iff-lt-mul {k = 8} (lit< tt) .1 (omega (arith, h .message))) in
     omega (arith, shape-length s h, h .label)
 
+not-true-false : (b : Bool) → (b ≡ true → ⊥) → b ≡ false
+not-true-false true n = absurd (n refl)
+not-true-false false n = refl
+
 first-only : (f : ℕ → Bool) (n m j : ℕ) → First f n 0 m → j < n → ((i : ℕ) → i < j → f i ≡ true) → f j ≡ false → m ≡ j
 first-only f n m j r l p q =
     by-lt m j (λ u. absurd (clash _ (p m u) (r .failed (omega arith))))
@@ -234,6 +238,22 @@ pub long-bad : (s : List ℕ) → 2150 ≤ length s → reading s ≡ NotLine (p
 long-bad s l = reading-bad s (omega (arith, place-early s l))
 
 -- ---- what a caller learns of the fields: where the parts stand, all inside the line
+
+-- ---- "Bytes after the 0A are refused at the first of them."
+
+pub after-end : (s : List ℕ) (b : ℕ) (t : List ℕ) → GoodLine s → reading (s ++ b ∷ t) ≡ NotLine (length s)
+after-end s b t g =
+    let u = s ++ b ∷ t in
+    let w = good-whole s g in
+    let size : length u ≡ length s + suc (length t) = length-append s (b ∷ t) in
+    let start : take (length s) u ≡ s = take-append-seam s (b ∷ t) in
+    let same : endOf s ≡ endOf u = ap endOf (sym start) ∙ start-end u (length s) (omega (arith, w .whole, end-far s)) in
+    let passed : (i : ℕ) → i < length s → fits u i ≡ true =
+    λ i l. sym (fits-start u (length s) i l) ∙ ap (λ (x : List ℕ). fits x i) start ∙ fit s (w .shape) i l in
+    let failed : fits u (length s) ≡ false =
+    not-true-false (fits u (length s)) (λ e. clash _ (fit-parts u (length s) e .2) (past-end (length s) _ (endOf u) (omega (arith, w .whole, end-far s)) (omega (arith, w .whole, same)))) in
+    let here : place u ≡ length s = first-only (fits u) (length u) (place u) (length s) (place-is u) (omega (arith, size)) passed failed in
+    reading-bad u (omega (arith, here, size)) ∙ ap NotLine here
 
 pub record Inside (s : List ℕ) (a b c d e : ℕ) : Type 0 where
   pub serial : a < 2 ^ 44

@@ -98,7 +98,7 @@ line-put d y1 y2 y3 a c serial n at end h p q e1 e2 e3 =
     ∙ ap (λ (k : ℕ). ((head ++ hex a) ++ hex c) ++ 10 ∷ drop k d) z
     ∙ simp append-assoc
 
--- "A line is 37 to 2,149 bytes with its end."
+-- how long the line of a frame is
 pub line-length : (f : Frame) → length (lineOf f) ≡ 20 + 2 * (length (f .label) + length (f .sealed)) + 1
 unfolding lineOf
 line-length f = simp (length-append, length-hex-digits, length-hex) (omega arith)

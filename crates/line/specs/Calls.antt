@@ -7,9 +7,9 @@ use Rattle.words.specs.Cases.{ifLe}
 use Rattle.words.specs.Digits.{Digits}
 use Rattle.refusals.specs.declared.Answer.{Answer}
 use Rattle.refusals.specs.declared.Answer.the-variants.{Wrote, Refused}
-use Rattle.refusals.specs.declared.Refusal.the-variants.{Length, Serial, Room, Line}
+use Rattle.refusals.specs.declared.Refusal.the-variants.{Room, Line}
 use Rattle.cipher.specs.Engine.{keySchedule}
-use Rattle.frame.specs.Frames.{sealedSize, sealedBytes, opening, Within}
+use Rattle.frame.specs.Frames.{limited, sealedSize, sealedBytes, opening, Within}
 use Rattle.line.specs.Line.{Frame, lineOf}
 use Rattle.line.specs.Reader.{numberAt, bytesAt, reading}
 use Rattle.line.specs.declared.Reading.{Reading}
@@ -19,7 +19,7 @@ use Rattle.line.specs.declared.Reading.the-variants.{Fields, NotLine}
 abbrev pub frameOf : ℕ → List ℕ → ℕ → List ℕ → Frame
 frameOf serial a n c = record { serial = serial; label = a; message = n; sealed = c }
 
--- "A line is 37 to 2,149 bytes with its end": with a label of l bytes and n sealed ones
+-- how many bytes the line of a frame with a label of l bytes and n sealed ones has: two digits a byte, twenty before them, and the 0A
 abbrev pub lineSize : ℕ → ℕ → ℕ
 lineSize l n = 20 + 2 * (l + n) + 1
 
@@ -32,16 +32,9 @@ lineGiven serial a n c out =
 
 -- "Writing a line seals first and can give 2, 3, 5, with room reckoned for the line."
 unfoldable pub writing : ℕ → ℕ → ℕ → List ℕ → List ℕ → List ℕ → Answer × List ℕ
-writing w0 k0 serial a m out =
-    ifLe (length m) 1024
-    (ifLe (length a) 32
-    (ifLe serial (2 ^ 44 - 1)
-    (lineGiven serial a (length m) (sealedBytes (keySchedule 4 w0 k0) serial a m) out)
-    (Refused Serial, out))
-    (Refused Length, out))
-    (Refused Length, out)
+writing w0 k0 serial a m out = limited serial a (length m) out (lineGiven serial a (length m) (sealedBytes (keySchedule 4 w0 k0) serial a m) out)
 
--- "Opening a line gives 7, or else passes on what opening gives."
+-- "Opening a line gives 7, or else passes on what opening gives.": over the computed reading. `passes-on` and `not-a-line` (`proofs/Demands.antt`) say it of good lines and of places.
 abbrev pub openingAs : ℕ → ℕ → List ℕ → Reading → List ℕ → Answer × List ℕ
 openingAs w0 k0 s (Fields serial l n label sealed) out = opening w0 k0 serial n (bytesAt s label l) (bytesAt s sealed (sealedSize n)) out
 openingAs w0 k0 s (NotLine k) out = (Refused (Line k), out)

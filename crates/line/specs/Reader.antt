@@ -1,4 +1,4 @@
--- The reading of a line, computed: a byte may stand at a place by the bytes before it. `proofs/Places.antt` shows that it is what `Line.antt` asks for.
+-- Document 01, "The frame line": the reading of a line, computed. Whether a byte may stand at a place, the bytes up to it decide. `proofs/Places.antt` shows that it is what `Line.antt` asks for.
 use Prim.Native.Nat.{ℕ, zero, suc, _+_, _-_, _*_}
 use mathlib.Core.List.{List, [], _∷_}
 use mathlib.Core.Bool.{Bool, cond, _&&_}
@@ -43,7 +43,7 @@ stands i b e =
     (cond (eqb i 2) (eqb b 48)
     (cond (ltb i e) (ltb (hexValue b) 16) (eqb i e && eqb b 10))))
 
--- may byte i stand there, by the bytes before it?
+-- may byte i stand there, by the bytes up to it?
 unfoldable pub fits : List ℕ → ℕ → Bool
 fits s i =
     leb (labelLength (take (i + 1) s)) 32
@@ -55,11 +55,14 @@ abbrev pub first : (ℕ → Bool) → ℕ → ℕ → ℕ
 first f zero k = k
 first f (suc n) k = cond (f k) (first f n (suc k)) k
 
+-- the first byte that may not stand where it stands, or how many bytes there are
 unfoldable pub place : List ℕ → ℕ
 place s = first (fits s) (length s) 0
 
+-- each byte may stand where it stands, and the 0A is the last
 unfoldable pub good : List ℕ → Bool
 good s = eqb (place s) (length s) && eqb (length s) (endOf s + 1)
 
+-- the fields and their places, or the place
 unfoldable pub reading : List ℕ → Reading
 reading s = cond (good s) (Fields (serialOf s) (labelLength s) (messageLength s) 20 (20 + 2 * labelLength s)) (NotLine (place s))

@@ -5,7 +5,6 @@ ghost use mathlib.Core.Path.{_≡_};
 ghost use mathlib.Core.List.{_++_};
 ghost use Prim.Native.Nat.{ℕ, _+_, _*_, _^_, _<_, _≤_, min};
 ghost use lib.ListN.{length, getD, drop};
-ghost use Rattle.words.specs.Digits.{Digits};
 ghost use Rattle.frame.specs.Frames.{sealedSize, opening};
 ghost use Rattle.line.specs.Line.{Reads, hexDigit, hexDigits, hex, lineOf};
 ghost use Rattle.line.specs.Reader.{hexValue, numberAt, labelLength, messageLength, endOf, bytesAt, stands, fits, place};
@@ -26,6 +25,7 @@ pub enum Reading {
     },
 }
 
+// The value of a digit, or 16 for a byte that is none.
 fn hex_val(b: u8) -> u64
     ensures { λ r. ⌜ r ≡ hexValue b ⌝ }
 {
@@ -65,12 +65,14 @@ fn number(s: &[u8], a: usize, n: usize) -> u64
     v
 }
 
+// The label length that a line says.
 fn label_length(s: &[u8]) -> usize
     ensures { λ r. ⌜ (r ≡ labelLength (now (s .entry))) × (r < 2 ^ 49) ⌝ }
 {
     number(s, 14, 2) as usize
 }
 
+// The message length that a line says.
 fn message_length(s: &[u8]) -> usize
     ensures { λ r. ⌜ (r ≡ messageLength (now (s .entry))) × (r < 2 ^ 49) ⌝ }
 {
@@ -84,6 +86,7 @@ fn end_of(s: &[u8]) -> usize
     20 + 2 * (label_length(s) + (message_length(s) + 7) / 8 * 8 + 8)
 }
 
+// May this byte stand at place i of a line whose 0A stands at place e?
 fn stands_at(i: usize, b: u8, e: usize) -> bool
     ensures { λ r. ⌜ r ≡ stands i b e ⌝ }
 {
@@ -105,7 +108,7 @@ fn stands_at(i: usize, b: u8, e: usize) -> bool
     false
 }
 
-// May byte i stand there, by the bytes before it?
+// May byte i stand there, by the bytes up to it?
 fn fits_at(s: &[u8], i: usize) -> bool
     requires { ⌜ i < length (now s) ⌝ }
     ensures { λ r. ⌜ r ≡ fits (now (s .entry)) i ⌝ }
@@ -187,7 +190,7 @@ fn digit_byte(d: u8) -> u8
     d + 87
 }
 
-// Fills out with the last digits of a number.
+// Writes the last digits of a number over all of out.
 fn put_digits(out: &mut [u8], n: u64)
     ensures { λ _. ⌜ now (out .exit) ≡ hexDigits (length (now (out .entry))) n ⌝ }
 {
@@ -200,7 +203,7 @@ fn put_digits(out: &mut [u8], n: u64)
     }
 }
 
-// Fills out with two digits for each byte.
+// Writes two digits for each byte over all of out.
 fn put_hex(bytes: &[u8], out: &mut [u8])
     requires { ⌜ length (now out) ≡ 2 * length (now bytes) ⌝ }
     ensures { λ _. ⌜ now (out .exit) ≡ hex (now (bytes .entry)) ⌝ }
@@ -213,7 +216,7 @@ fn put_hex(bytes: &[u8], out: &mut [u8])
     }
 }
 
-// Fills out with version, serial and lengths.
+// Writes version, serial and lengths over all of out.
 fn put_head(serial: u64, l: usize, n: usize, out: &mut [u8])
     requires { ⌜ length (now out) ≡ 20 ⌝ }
     ensures { λ _. ⌜ now (out .exit) ≡ hexDigits 2 1 ++ (hexDigits 12 serial ++ (hexDigits 2 l ++ hexDigits 4 n)) ⌝ }
@@ -267,7 +270,7 @@ pub fn write(w0: u64, k0: u64, serial: u64, label: &[u8], message: &[u8], out: &
     }
 }
 
-// Fills out with bytes of two digits each, from place a on.
+// Writes bytes of two digits each, from place a on, over all of out.
 fn bytes_at(s: &[u8], a: usize, out: &mut [u8])
     requires { ⌜ ((a ≤ 2 ^ 16) × (length (now out) ≤ 1032)) × ((i : ℕ) → i < length (now out) → numberAt (now s) (a + 2 * i) 2 < 256) ⌝ }
     ensures { λ _. ⌜ now (out .exit) ≡ bytesAt (now (s .entry)) a (length (now (out .entry))) ⌝ }

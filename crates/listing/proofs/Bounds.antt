@@ -9,9 +9,9 @@ use lib.ListN.{length, take, length-append}
 use Rattle.refusals.specs.declared.Answer.{Answer}
 use Rattle.refusals.specs.declared.Answer.the-variants.{Wrote, Refused}
 use Rattle.refusals.specs.declared.Refusal.{Refusal}
-use Rattle.refusals.specs.declared.Refusal.the-variants.{Settings, Length, Serial, SealedSize, Room, Disagrees, Line}
+use Rattle.refusals.specs.Refusals.{numberOf, placeOf}
 use Rattle.line.proofs.Shape.{by-lt, by-eq}
-use Rattle.listing.specs.Listing.{answerOf, one, spelled, decimal, refusalText, report, total}
+use Rattle.listing.specs.Listing.{answerOf, one, decimal, at, refusalText, report, total}
 use Rattle.listing.specs.Pieces.{pushing, pushed, gathering, keyText, keyOf, endedAs, ending, fedBy, Added, Ends, Feeds, finishing, totalAs, closing, Kept}
 use Rattle.listing.specs.declared.Key.{Key}
 use Rattle.listing.specs.declared.Key.the-variants.{Unread, Known, Bad}
@@ -19,38 +19,25 @@ use Rattle.listing.specs.declared.Lister.{Lister}
 use Rattle.listing.specs.declared.Gathered.{Gathered}
 use Rattle.listing.specs.declared.Ended.{Ended}
 use Rattle.listing.specs.declared.Fed.{Fed}
+use Rattle.listing.proofs.Texts.{decimal-short}
 use Rattle.listing.proofs.Gathering.{push-room, push-full, on-end, on-more}
 
-one-few : (a : Answer) → one a ≤ 1
+pub one-few : (a : Answer) → one a ≤ 1
 one-few (Wrote k) = omega arith
 one-few (Refused r) = omega arith
 
 -- ---- texts
 
-short-spelled : (k n : ℕ) → length (spelled k n) ≤ k
-unfolding spelled
-short-spelled zero n = omega arith
-short-spelled (suc k) n = go (ltb n 10) (short-spelled k (n / 10))
-  where
-    go : (y : Bool) → length (spelled k (n / 10)) ≤ k → length (cond y ((n + 48) ∷ []) (spelled k (n / 10) ++ (n % 10 + 48) ∷ [])) ≤ suc k
-    go true h = omega arith
-    go false h = rw length-append (omega (arith, h))
-
-short : (n : ℕ) → length (decimal n) ≤ 20
-short n = short-spelled 20 n
-
 short-refusal : (r : Refusal) → length (refusalText r) ≤ 44
-short-refusal Settings = omega (arith, short 1)
-short-refusal Length = omega (arith, short 2)
-short-refusal Serial = omega (arith, short 3)
-short-refusal SealedSize = omega (arith, short 4)
-short-refusal Room = omega (arith, short 5)
-short-refusal Disagrees = omega (arith, short 6)
-short-refusal (Line p) = simp length-append (omega (arith, short 7, short p))
+short-refusal r = go (eqb (numberOf r) 7)
+  where
+    go : (y : Bool) → length (cond y (decimal (numberOf r) ++ (at ++ decimal (placeOf r))) (decimal (numberOf r))) ≤ 44
+    go true = simp length-append (omega (arith, decimal-short (numberOf r), decimal-short (placeOf r)))
+    go false = omega (arith, decimal-short (numberOf r))
 
 short-report : (n : ℕ) (a : Answer) → length (report n a) ≤ 128
-short-report n (Wrote k) = simp length-append (omega (arith, short n, short k))
-short-report n (Refused r) = simp length-append (omega (arith, short n, short-refusal r))
+short-report n (Wrote k) = simp length-append (omega (arith, decimal-short n, decimal-short k))
+short-report n (Refused r) = simp length-append (omega (arith, decimal-short n, short-refusal r))
 
 short-key : (k : Key) → length (keyText k) ≤ 128
 short-key Unread = omega arith
@@ -58,7 +45,7 @@ short-key (Known w0 k0) = omega arith
 short-key Bad = omega arith
 
 short-total : (n k : ℕ) → length (total n k) ≤ 128
-short-total n k = simp length-append (omega (arith, short n, short k, short (n - k)))
+short-total n k = simp length-append (omega (arith, decimal-short n, decimal-short k, decimal-short (n - k)))
 
 -- ---- states
 

@@ -1,6 +1,6 @@
 -- The key line: the computed test, and the two numbers.
 use Prim.Native.Nat.{ℕ, zero, suc, _+_, _-_, _^_, _≤_, _<_}
-use mathlib.Core.Bool.{Bool, true, false, false≢true, _&&_}
+use mathlib.Core.Bool.{Bool, true, false, _&&_}
 use mathlib.Core.Path.{_≡_, refl, sym, ap, subst, _∙_}
 use mathlib.Core.List.{List}
 use mathlib.Core.Logic.{_⊎_, inl, inr}
@@ -11,7 +11,7 @@ use borrow.Author.Tests.{lt-ltb, le-ltb, eq-eqb, ne-eqb, ltb-true}
 use lib.Dec.{lit<, ltb, eqb}
 use lib.ListN.{length, getD}
 use Rattle.line.specs.Reader.{hexValue, numberAt}
-use Rattle.line.proofs.Shape.{inside}
+use Rattle.line.proofs.Shape.{inside, both}
 use Rattle.line.proofs.Written.{num-below}
 use Rattle.listing.specs.Listing.{areDigits, isKey}
 use Rattle.listing.specs.Pieces.{keyOf}
@@ -41,10 +41,6 @@ digits-not l (suc n) i h d =
     last : (t : Bool) → 16 ≤ hexValue (getD l n 48) → t && ltb (hexValue (getD l n 48)) 16 ≡ false
     last true e = le-ltb (hexValue (getD l n 48)) 16 e
     last false e = refl
-
-both : (t u : Bool) → t && u ≡ true → (t ≡ true) × (u ≡ true)
-both true u h = (refl, h)
-both false u h = absurd (false≢true h)
 
 pub digit-in : (l : List ℕ) (n i : ℕ) → areDigits l n ≡ true → i < n → hexValue (getD l i 48) < 16
 digit-in l zero i h k = absurd (omega arith)

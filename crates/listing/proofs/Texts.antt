@@ -5,13 +5,12 @@ use mathlib.Core.Path.{_≡_, refl, sym, ap, ap₂, subst, _∙_}
 use mathlib.Core.List.{List, [], _∷_, _++_, append-assoc, append-nil}
 use native.Mathlib.Nat.{le-refl, pow-suc, div-lt-iff-lt-mul}
 use native.Mathlib.Omega.{arith}
-use borrow.Author.Tests.{lt-ltb, le-ltb}
+use borrow.Author.Tests.{lt-ltb, le-ltb, eq-eqb, ne-eqb}
 use lib.Dec.{lit<, ltb}
 use lib.ListN.{length, getD, take, drop, set, length-append, length-drop, length-set, drop-of-length-le}
 use lib.Seq.{drop-cons, lt-length-set, getD-set-same, drop-set-lt, take-at, take-all, take-length, drop-append-add, drop-drop, paste, length-paste-head}
 use Rattle.refusals.specs.Refusals.{numberOf, placeOf}
 use Rattle.refusals.specs.declared.Refusal.{Refusal}
-use Rattle.refusals.specs.declared.Refusal.the-variants.{Settings, Length, Serial, SealedSize, Room, Disagrees, Line}
 use Rattle.listing.specs.Listing.{spelled, decimal, at, refusalText}
 use Rattle.listing.specs.Pieces.{Added}
 
@@ -112,22 +111,10 @@ same-text {d} {t} {u} {o} {n} {m} e a = subst (λ (x : List ℕ). Added d n x o 
 
 -- the text of a refusal is its number, and for 7 the place
 pub refusal-plain : (r : Refusal) → (numberOf r ≡ 7 → ⊥) → decimal (numberOf r) ≡ refusalText r
-refusal-plain Settings h = refl
-refusal-plain Length h = refl
-refusal-plain Serial h = refl
-refusal-plain SealedSize h = refl
-refusal-plain Room h = refl
-refusal-plain Disagrees h = refl
-refusal-plain (Line p) h = absurd (h refl)
+refusal-plain r h = simp (ne-eqb (numberOf r) 7 h)
 
 pub refusal-place : (r : Refusal) → numberOf r ≡ 7 → decimal (numberOf r) ++ (at ++ decimal (placeOf r)) ≡ refusalText r
-refusal-place Settings h = absurd (omega arith)
-refusal-place Length h = absurd (omega arith)
-refusal-place Serial h = absurd (omega arith)
-refusal-place SealedSize h = absurd (omega arith)
-refusal-place Room h = absurd (omega arith)
-refusal-place Disagrees h = absurd (omega arith)
-refusal-place (Line p) h = refl
+refusal-place r h = simp (eq-eqb (numberOf r) 7 h)
 
 pub seven : (a b c d e f g : List ℕ) → (((a ++ b) ++ (c ++ d)) ++ (e ++ f)) ++ g ≡ a ++ (b ++ (c ++ (d ++ (e ++ (f ++ g)))))
 seven a b c d e f g = simp append-assoc

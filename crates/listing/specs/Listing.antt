@@ -1,15 +1,16 @@
 -- Document 01, "The file checker's listing": what the checker prints, from the bytes of the input.
 use Prim.Native.Nat.{ℕ, zero, suc, _+_, _-_, _/_, _%_}
-use mathlib.Core.Bool.{Bool, true, false, cond, _&&_}
+use mathlib.Core.Bool.{Bool, true, cond, _&&_}
+use mathlib.Core.Path.{_≡_}
 use mathlib.Core.List.{List, [], _∷_, _++_}
 use lib.Dec.{eqb, ltb}
 use lib.ListN.{length, getD, replicate}
 use Rattle.refusals.specs.declared.Answer.{Answer}
 use Rattle.refusals.specs.declared.Answer.the-variants.{Wrote, Refused}
 use Rattle.refusals.specs.declared.Refusal.{Refusal}
-use Rattle.refusals.specs.declared.Refusal.the-variants.{Settings, Length, Serial, SealedSize, Room, Disagrees, Line}
+use Rattle.refusals.specs.Refusals.{numberOf, placeOf}
 use Rattle.line.specs.Reader.{hexValue, numberAt}
-use Rattle.line.specs.Calls.{openingLine, WrittenFrom}
+use Rattle.line.specs.Calls.{openingLine}
 
 -- ---- the lines of the input
 
@@ -35,11 +36,12 @@ isKey l = eqb (length l) 33 && eqb (getD l 32 48) 10 && areDigits l 32
 
 -- ---- what is printed
 
--- a number below 10 ^ n in decimal
+-- a number n below 10 ^ k in decimal
 unfoldable pub spelled : ℕ → ℕ → List ℕ
 spelled zero n = []
 spelled (suc k) n = cond (ltb n 10) ((n + 48) ∷ []) (spelled k (n / 10) ++ (n % 10 + 48) ∷ [])
 
+-- every number of 64 bits is below 10 ^ 20
 abbrev pub decimal : ℕ → List ℕ
 decimal n = spelled 20 n
 
@@ -65,13 +67,7 @@ linesText = 108 ∷ 105 ∷ 110 ∷ 101 ∷ 115 ∷ 32 ∷ []
 
 -- "`refused`, the number and, for 7, the place"
 abbrev pub refusalText : Refusal → List ℕ
-refusalText Settings = decimal 1
-refusalText Length = decimal 2
-refusalText Serial = decimal 3
-refusalText SealedSize = decimal 4
-refusalText Room = decimal 5
-refusalText Disagrees = decimal 6
-refusalText (Line p) = decimal 7 ++ (at ++ decimal p)
+refusalText r = cond (eqb (numberOf r) 7) (decimal (numberOf r) ++ (at ++ decimal (placeOf r))) (decimal (numberOf r))
 
 -- "Each line prints its number with `opened` and the message length, or `refused`, .."
 abbrev pub report : ℕ → Answer → List ℕ
@@ -82,14 +78,17 @@ report n (Refused r) = decimal n ++ (refused ++ (refusalText r ++ (10 ∷ [])))
 unfoldable pub answerOf : ℕ → ℕ → List ℕ → Answer
 answerOf w0 k0 l = openingLine w0 k0 l (replicate 1024 0) .0
 
+-- the lines behind the first n
 abbrev pub reports : ℕ → ℕ → ℕ → List (List ℕ) → List ℕ
 reports w0 k0 n [] = []
 reports w0 k0 n (l ∷ ls) = report (n + 1) (answerOf w0 k0 l) ++ reports w0 k0 (n + 1) ls
 
+-- 1 for a line that opened
 abbrev pub one : Answer → ℕ
 one (Wrote k) = 1
 one (Refused r) = 0
 
+-- how many of the lines opened
 abbrev pub openedIn : ℕ → ℕ → List (List ℕ) → ℕ
 openedIn w0 k0 [] = 0
 openedIn w0 k0 (l ∷ ls) = one (answerOf w0 k0 l) + openedIn w0 k0 ls
@@ -110,7 +109,15 @@ listed (l ∷ ls) =
 abbrev pub listing : List ℕ → List ℕ
 listing s = listed (linesOf s)
 
--- "A file is good when every line of it opens": of the lines behind the key line
-pub data Good (w0 k0 : ℕ) : List (List ℕ) → Type 0 where
-  none : Good w0 k0 []
-  more : {l : List ℕ} {ls : List (List ℕ)} → WrittenFrom w0 k0 l → Good w0 k0 ls → Good w0 k0 (l ∷ ls)
+-- each of the lines opens
+pub data Opens (w0 k0 : ℕ) : List (List ℕ) → Type 0 where
+  none : Opens w0 k0 []
+  more : {l : List ℕ} {ls : List (List ℕ)} (k : ℕ) → answerOf w0 k0 l ≡ Wrote k → Opens w0 k0 ls → Opens w0 k0 (l ∷ ls)
+
+-- "A file is good when every line of it opens": its first line is a key line, and each line behind that opens under the key
+pub record GoodFile (s : List ℕ) : Type 0 where
+  pub key : List ℕ
+  pub lines : List (List ℕ)
+  pub cut : linesOf s ≡ key ∷ lines
+  pub right : isKey key ≡ true
+  pub opens : Opens (numberAt key 0 16) (numberAt key 16 16) lines

@@ -1,10 +1,10 @@
--- The listing reckoned from pieces of the input: what is kept between them, and what each brings.
-use Prim.Native.Nat.{ℕ, zero, suc, _+_, _≤_, _<_, _^_}
-use mathlib.Core.Bool.{Bool, true, false, cond}
+-- The listing reckoned from pieces of the input: what is kept between them, and what each brings. Not from the paper: `proofs/Whole.antt` shows that it gives the listing.
+use Prim.Native.Nat.{ℕ, _+_, _≤_, _<_, _^_}
+use mathlib.Core.Bool.{true, false, cond}
 use mathlib.Core.Path.{_≡_}
-use mathlib.Core.List.{List, [], _∷_, _++_}
+use mathlib.Core.List.{List, [], _∷_}
 use lib.Dec.{eqb, ltb}
-use lib.ListN.{length, take, drop, set}
+use lib.ListN.{length, take, set}
 use lib.Seq.{paste}
 use Rattle.line.specs.Reader.{numberAt}
 use Rattle.listing.specs.Listing.{isKey, keyRefused, answerOf, report, one, total}
@@ -91,7 +91,7 @@ totalAs t Bad = []
 unfoldable pub closing : Lister → List ℕ
 closing t = totalAs t (t .key)
 
--- what is known of a state: there are no more opened lines than lines
+-- what is known of a state: no more opened lines than lines, fewer lines than a count can hold, and no more bytes held than are kept of a line
 pub record Kept (t : Lister) : Type 0 where
   pub few : t .opened ≤ t .lines
   pub lines : t .lines < 2 ^ 63

@@ -4,7 +4,7 @@ use refusals::Refusal;
 ghost use mathlib.Core.Path.{_≡_};
 ghost use mathlib.Core.List.{_++_};
 ghost use Prim.Native.Nat.{ℕ, _+_, _^_, _<_, _≤_};
-ghost use lib.ListN.{length, getD, take, drop};
+ghost use lib.ListN.{length, getD};
 ghost use Rattle.line.specs.Reader.{hexValue, numberAt};
 ghost use Rattle.refusals.specs.declared.Answer.the-variants.{Wrote, Refused};
 ghost use Rattle.listing.specs.declared.Key.the-variants.{Unread, Known};

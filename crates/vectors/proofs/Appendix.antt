@@ -5,7 +5,7 @@ use Prim.Native.Nat.{ℕ}
 use Rattle.cells.specs.Cells.{cut, joined, added, looked, picked, mixedBy, onSeven}
 use Rattle.cells.specs.Lists.{upto}
 use Rattle.cells.specs.Qarma64.{qarma64}
-use Rattle.cipher.specs.Engine.{keySchedule, turned, forward, shortForward, backward, shortBackward, forwardWord, backwardWord, down, centre, middle, up, engine}
+use Rattle.cipher.specs.Engine.{keySchedule, turned, forward, shortForward, backward, shortBackward, forwardWord, backwardWord, forwardStep, centre, middle, backwardStep, engine}
 use Rattle.cipher.specs.Words.{engineWord}
 use Rattle.cipher.specs.declared.Schedule.{Schedule}
 
@@ -44,5 +44,5 @@ abbrev says : Vector → ℕ × ℕ
 says v = (v .2, plain)
 
 pub nine : map gives vectors ≡ map says vectors
-unfolding upto cut joined added looked picked mixedBy onSeven turned forward shortForward backward shortBackward forwardWord backwardWord down centre middle up engine
+unfolding upto cut joined added looked picked mixedBy onSeven turned forward shortForward backward shortBackward forwardWord backwardWord forwardStep centre middle backwardStep engine
 nine = refl

@@ -8,7 +8,7 @@ use Rattle.words.specs.Digits.{digits}
 use Rattle.words.proofs.Laws.{digits-below}
 use Rattle.cells.specs.Cells.{cut, joined, added, looked, picked, mixedBy, onSeven}
 use Rattle.cells.specs.Lists.{upto}
-use Rattle.cipher.specs.Engine.{keySchedule, forward, shortForward, backward, shortBackward, forwardWord, backwardWord, down, centre, middle, up, engine}
+use Rattle.cipher.specs.Engine.{keySchedule, forward, shortForward, backward, shortBackward, forwardWord, backwardWord, forwardStep, centre, middle, backwardStep, engine}
 use Rattle.cipher.specs.declared.Schedule.{Schedule}
 use Rattle.frame.specs.Blocks.{filled, purpose, tagPurpose}
 use Rattle.frame.specs.Frames.{sealedBytes, SealedFrom}
@@ -21,11 +21,11 @@ abbrev text : List ℕ
 text = digits 8 24 0x07C083A47B326C6D9BF88EB2BDB10960000000003B271E6A
 
 pub at-sixteen : SealedFrom key 1 [] 16 text
-unfolding ifLe upto cut joined added looked picked mixedBy onSeven forward shortForward backward shortBackward forwardWord backwardWord down centre middle up engine filled purpose tagPurpose sealedBytes
+unfolding ifLe upto cut joined added looked picked mixedBy onSeven forward shortForward backward shortBackward forwardWord backwardWord forwardStep centre middle backwardStep engine filled purpose tagPurpose sealedBytes
 at-sixteen = record { message = digits 8 16 0xA54729AA32646895C497EFE738867FB1; bytes = digits-below 8 16 0xA54729AA32646895C497EFE738867FB1; size = refl; sealed = refl }
 
 pub at-fifteen : SealedFrom key 1 [] 15 text
-unfolding ifLe upto cut joined added looked picked mixedBy onSeven forward shortForward backward shortBackward forwardWord backwardWord down centre middle up engine filled purpose tagPurpose sealedBytes
+unfolding ifLe upto cut joined added looked picked mixedBy onSeven forward shortForward backward shortBackward forwardWord backwardWord forwardStep centre middle backwardStep engine filled purpose tagPurpose sealedBytes
 at-fifteen = record { message = digits 8 15 0xA54729AA326468950000024299B5A8; bytes = digits-below 8 15 0xA54729AA326468950000024299B5A8; size = refl; sealed = refl }
 
 -- so no theorem says "no sealed text opens at two lengths"

@@ -12,7 +12,7 @@ use borrow.Author.Tests.{le-leb, lt-leb}
 use borrow.Rule.Slice.PartMut.{putMid}
 use lib.Arith.{lt-one, digits-lt}
 use lib.Bits.{bitAnd, and-mask}
-use lib.Dec.{lit<}
+use lib.Dec.{lit<, leb}
 use lib.ListN.{length, getD, take, drop, set, length-append, length-take}
 use lib.Pow.{pow-pos, pow-mono, pow-add, shl-exact, shr-lt, shr-shr, split, high, low}
 use lib.Seq.{drop-cons, lt-length-set, getD-set-same, drop-set-lt, take-at, drop-at, drop-drop}
@@ -150,6 +150,15 @@ le-case m n a b h = rw (le-leb m n h, ifLe)
 pub gt-case : {A : Type 0} (m n : ℕ) (a b : A) → n < m → b ≡ ifLe m n a b
 unfolding ifLe
 gt-case m n a b h = rw (lt-leb m n h, ifLe)
+
+-- what holds of both cases
+pub le-either : {A : Type 0} (P : A → Type 0) (m n : ℕ) {a b : A} → P a → P b → P (ifLe m n a b)
+unfolding ifLe
+le-either P m n {a} {b} ha hb = go (leb m n)
+  where
+    go : (t : Bool) → P (elim t [ true ↦ a | false ↦ b ])
+    go true = ha
+    go false = hb
 
 pub yes-case : {A : Type 0} (t : Bool) (a b : A) → t ≡ true → a ≡ ifYes t a b
 unfolding ifYes

@@ -1,4 +1,4 @@
--- Definitions by cases: on the order of two numbers, and on a yes or no.
+-- Definitions by cases: on the order of two numbers, and on a yes or no. They are rigid, so that a proof picks its case by a law (`cond` computes away).
 use mathlib.Core.Bool.{Bool, true, false}
 use Prim.Native.Nat.{ℕ}
 use lib.Dec.{leb}

@@ -28,7 +28,7 @@ pub data Digits (m : ℕ) : List ℕ → Type 0 where
   none : Digits m []
   more : {d : ℕ} {ds : List ℕ} → d < 2 ^ m → Digits m ds → Digits m (d ∷ ds)
 
--- "8 bytes a word, most significant first": the bytes of the n words f 0, f 1, .., f (n - 1)
+-- Document 01, "What a refused caller gets": "8 bytes a word, most significant first": the bytes of the n words f 0, f 1, .., f (n - 1)
 abbrev pub laid : ℕ → (ℕ → ℕ) → List ℕ
 laid zero f = []
 laid (suc n) f = laid n f ++ digits 8 8 (f n)

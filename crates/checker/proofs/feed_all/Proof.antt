@@ -1,4 +1,4 @@
--- `feed_all` meets its contract: each turn takes a byte or is the last, and brings one line at most.
+-- `feed_all` meets its contract: each line fed takes a byte or is the last, and brings one line at most.
 use borrow.Author.Needs.{needs}
 use borrow.Author.Tests.{not-false}
 use Prim.Native.Nat.{_+_, _-_, _≤_}
@@ -17,11 +17,11 @@ abbrev μ-loop : tie.MeasureT-loop
 μ-loop line₀ piece out₀ used state₀ waiting₀ from₀ line out state waiting from = length piece - from
 
 loop-less : tie.Need-loop-less Inv-loop μ-loop
-loop-less c = omega (arith, c .before .before .before .before .before .before .before .before .turn .ensures .3 (not-false _ (c .before .before .if1 .left)))
+loop-less c = omega (arith, c .before .before .before .before .before .before .before .before .feed-line .ensures .3 (not-false _ (c .before .before .if1 .left)))
 
 loop-again : tie.Need-loop-again Inv-loop μ-loop
 loop-again c =
-    let taken = c .before .before .before .before .before .before .before .before .turn .ensures .3 (not-false _ (c .before .before .if1 .left)) in
+    let taken = c .before .before .before .before .before .before .before .before .feed-line .ensures .3 (not-false _ (c .before .before .if1 .left)) in
     search (needs, taken)
 
 pub feed-all-spec : {M : Type 1} → statement M

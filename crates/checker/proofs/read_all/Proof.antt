@@ -1,4 +1,4 @@
--- `read_all` meets its contract: the turns count down, each brings at most as many lines as a piece has bytes, and what waits stays within the output.
+-- `read_all` meets its contract: the reads count down, each brings at most as many lines as a piece has bytes, and what waits stays within the output.
 use borrow.Author.Needs.{needs}
 use Prim.Native.Nat.{_+_, _*_, _^_, _≤_}
 use mathlib.Core.Path.{_≡_}
@@ -9,11 +9,11 @@ use Rattle.checker.proofs.read_all.Statement.{statement}
 use Rattle.checker.proofs.read_all.Tie as tie
 
 abbrev Inv-loop : tie.InvT-loop
-Inv-loop line₀ buf₀ out₀ state₀ waiting₀ turns₀ t11 t12 line buf out state waiting turns =
-    (length line ≡ length line₀) × (length buf ≡ length buf₀) × (length out ≡ length out₀) × (waiting ≤ length out) × Kept state × (state .lines + 65536 * turns ≤ 2 ^ 62)
+Inv-loop line₀ buf₀ out₀ state₀ waiting₀ reads₀ t11 t12 line buf out state waiting reads =
+    (length line ≡ length line₀) × (length buf ≡ length buf₀) × (length out ≡ length out₀) × (waiting ≤ length out) × Kept state × (state .lines + 65536 * reads ≤ 2 ^ 62)
 
 abbrev μ-loop : tie.MeasureT-loop
-μ-loop line₀ buf₀ out₀ state₀ waiting₀ turns₀ t11 t12 line buf out state waiting turns = turns
+μ-loop line₀ buf₀ out₀ state₀ waiting₀ reads₀ t11 t12 line buf out state waiting reads = reads
 
 returns-3 : tie.Need-returns-3 Inv-loop μ-loop
 returns-3 c =

@@ -19,6 +19,7 @@ use Rattle.cipher.proofs.Rounds.{turned-below}
 use Rattle.cells.proofs.Lawful.{lawful64}
 use Rattle.cipher.proofs.Demands.{schedule-below}
 use Rattle.frame.specs.Frames.{opening, accepted, openedBlock}
+use Rattle.frame.proofs.Limits.{goes-on, long-message, long-label, high-serial}
 use Rattle.frame.proofs.open.Statement.{statement}
 use Rattle.frame.proofs.open.Tie as tie
 
@@ -27,14 +28,14 @@ unfolding opening
 open-spec =
     tie.close
     (tie.spec
-    (λ c. gt-case _ _ _ _ (omega arith))
-    (λ c. gt-case _ _ _ _ (omega arith) ∙ le-case _ _ _ _ (omega arith))
-    (λ c. gt-case _ _ _ _ (omega arith) ∙ le-case _ _ _ _ (omega arith) ∙ le-case _ _ _ _ (omega arith))
+    (λ c. long-message _ _ _ _ _ (omega arith))
+    (λ c. long-label _ _ _ _ _ (omega arith) (omega arith))
+    (λ c. high-serial _ _ _ _ _ (omega arith) (omega arith) (omega arith))
     (λ c. search needs)
     (λ c. search needs)
     (λ c. search needs)
-    (λ c. no-case _ _ _ (ne-eqb _ _ (c .if4 .taken)) ∙ le-case _ _ _ _ (omega arith) ∙ le-case _ _ _ _ (omega arith) ∙ le-case _ _ _ _ (omega arith))
-    (λ c. gt-case _ _ _ _ (c .if5 .taken) ∙ yes-case _ _ _ (eq-eqb _ _ (c .before .if4 .left)) ∙ le-case _ _ _ _ (omega arith) ∙ le-case _ _ _ _ (omega arith) ∙ le-case _ _ _ _ (omega arith))
+    (λ c. no-case _ _ _ (ne-eqb _ _ (c .if4 .taken)) ∙ goes-on _ _ _ _ _ (record { message = omega arith; label = omega arith; serial = omega arith }))
+    (λ c. gt-case _ _ _ _ (c .if5 .taken) ∙ yes-case _ _ _ (eq-eqb _ _ (c .before .if4 .left)) ∙ goes-on _ _ _ _ _ (record { message = omega arith; label = omega arith; serial = omega arith }))
     (λ c κs. search needs)
     (λ c κs. search needs)
     (λ c. search needs)
@@ -47,7 +48,7 @@ open-spec =
     (λ c.
     let args = c .before .before .before .before .before .before .before .before .before .before .before .before .before .before .before .before .args in
     let no = ap (λ (s : Schedule). accepted s (args .serial) (args .label .now) (args .n) (args .sealed .now)) (sym (c .before .before .before .before .before .before .before .of-key .ensures)) ∙ sym (c .before .agrees .ensures) ∙ not-true _ (c .if6 .taken) in
-    no-case _ _ _ no ∙ le-case _ _ _ _ (c .before .before .before .before .before .before .before .before .if5 .left) ∙ yes-case _ _ _ (eq-eqb _ _ (c .before .before .before .before .before .before .before .before .before .if4 .left)) ∙ le-case _ _ _ _ (omega arith) ∙ le-case _ _ _ _ (omega arith) ∙ le-case _ _ _ _ (omega arith))
+    no-case _ _ _ no ∙ le-case _ _ _ _ (c .before .before .before .before .before .before .before .before .if5 .left) ∙ yes-case _ _ _ (eq-eqb _ _ (c .before .before .before .before .before .before .before .before .before .if4 .left)) ∙ goes-on _ _ _ _ _ (record { message = omega arith; label = omega arith; serial = omega arith }))
     (λ c. search needs)
     (λ c κs. search needs)
     (λ c. search needs)
@@ -62,6 +63,4 @@ open-spec =
     ∙ yes-case _ _ _ yes
     ∙ le-case _ _ _ _ (c .before .before .before .before .before .before .before .before .before .before .before .before .before .if5 .left)
     ∙ yes-case _ _ _ (eq-eqb _ _ (c .before .before .before .before .before .before .before .before .before .before .before .before .before .before .if4 .left))
-    ∙ le-case _ _ _ _ (omega (arith, c .before .before .before .before .before .before .before .before .before .before .before .before .before .before .before .if3 .left))
-    ∙ le-case _ _ _ _ (c .before .before .before .before .before .before .before .before .before .before .before .before .before .before .before .before .if2 .left)
-    ∙ le-case _ _ _ _ (c .before .before .before .before .before .before .before .before .before .before .before .before .before .before .before .before .before .if1 .left)))
+    ∙ goes-on _ _ _ _ _ (record { message = c .before .before .before .before .before .before .before .before .before .before .before .before .before .before .before .before .before .if1 .left; label = c .before .before .before .before .before .before .before .before .before .before .before .before .before .before .before .before .if2 .left; serial = omega (arith, c .before .before .before .before .before .before .before .before .before .before .before .before .before .before .before .if3 .left) })))

@@ -9,6 +9,7 @@ use Rattle.refusals.specs.declared.Answer.the-variants.{Wrote}
 use Rattle.cipher.specs.declared.Schedule.{Schedule}
 use Rattle.cipher.proofs.Demands.{schedule-below}
 use Rattle.frame.specs.Frames.{sealedSize, sealedBytes, sealing}
+use Rattle.frame.proofs.Limits.{goes-on, long-message, long-label, high-serial}
 use Rattle.frame.proofs.seal.Statement.{statement}
 use Rattle.frame.proofs.seal.Tie as tie
 
@@ -17,13 +18,13 @@ unfolding sealing
 seal-spec =
     tie.close
     (tie.spec
-    (λ c. gt-case _ _ _ _ (omega arith))
-    (λ c. gt-case _ _ _ _ (omega arith) ∙ le-case _ _ _ _ (omega arith))
-    (λ c. gt-case _ _ _ _ (omega arith) ∙ le-case _ _ _ _ (omega arith) ∙ le-case _ _ _ _ (omega arith))
+    (λ c. long-message _ _ _ _ _ (omega arith))
+    (λ c. long-label _ _ _ _ _ (omega arith) (omega arith))
+    (λ c. high-serial _ _ _ _ _ (omega arith) (omega arith) (omega arith))
     (λ c. search needs)
     (λ c. search needs)
     (λ c. search needs)
-    (λ c. gt-case _ _ _ _ (omega arith) ∙ le-case _ _ _ _ (omega arith) ∙ le-case _ _ _ _ (omega arith) ∙ le-case _ _ _ _ (omega arith))
+    (λ c. gt-case _ _ _ _ (omega arith) ∙ goes-on _ _ _ _ _ (record { message = omega arith; label = omega arith; serial = omega arith }))
     (λ c κs. search needs)
     (λ c κs. ((rw (c .before .of-key .ensures) (schedule-below 4 _ _ _ _), omega arith), (omega arith, (omega arith, omega arith))))
     (λ c. search needs)
@@ -35,6 +36,4 @@ seal-spec =
     ∙ ap (λ (s : Schedule). sealedBytes s (args .serial) (args .label .now) (args .message .now) ++ drop size (args .out .now)) (c .before .before .before .before .of-key .ensures) in
     ap (λ l. (Wrote size, l)) made
     ∙ le-case _ _ _ _ (omega arith)
-    ∙ le-case _ _ _ _ (omega arith)
-    ∙ le-case _ _ _ _ (omega arith)
-    ∙ le-case _ _ _ _ (omega arith)))
+    ∙ goes-on _ _ _ _ _ (record { message = omega arith; label = omega arith; serial = omega arith })))

@@ -1,17 +1,17 @@
--- `Schedule::first` meets its contract: the sum, and the first of the steps down.
+-- `Schedule::first` meets its contract: the sum, and the first of the steps forwardStep.
 use borrow.Author.Needs.{needs}
 use mathlib.Core.Path.{ap₂, _∙_}
 use Rattle.cells.specs.Cells.{cut}
 use Rattle.cells.specs.Qarma64.{qarma64}
 use Rattle.cells.proofs.Laws.{added-below}
 use Rattle.cells.proofs.Lawful.{lawful64}
-use Rattle.cipher.specs.Engine.{shortForward, down}
+use Rattle.cipher.specs.Engine.{shortForward, forwardStep}
 use Rattle.cipher.proofs.Rounds.{forward-word-below}
 use Rattle.cipher.proofs.Schedule.first.Statement.{statement}
 use Rattle.cipher.proofs.Schedule.first.Tie as tie
 
 pub first-spec : {M : Type 1} → statement M
-unfolding cut down
+unfolding cut forwardStep
 first-spec =
     tie.close
     (tie.spec

@@ -1,15 +1,15 @@
--- `Schedule::last` meets its contract: the last of the steps up, and the sum.
+-- `Schedule::last` meets its contract: the last of the steps backwardStep, and the sum.
 use borrow.Author.Needs.{needs}
 use mathlib.Core.Path.{ap, _∙_}
 use Rattle.cells.specs.Cells.{cut, added}
 use Rattle.cells.specs.declared.Cells.{Cells}
 use Rattle.cells.specs.Qarma64.{qarma64}
-use Rattle.cipher.specs.Engine.{shortBackward, backwardWord, up}
+use Rattle.cipher.specs.Engine.{shortBackward, backwardWord, backwardStep}
 use Rattle.cipher.proofs.Schedule.last.Statement.{statement}
 use Rattle.cipher.proofs.Schedule.last.Tie as tie
 
 pub last-spec : {M : Type 1} → statement M
-unfolding cut up
+unfolding cut backwardStep
 last-spec =
     tie.close
     (tie.spec

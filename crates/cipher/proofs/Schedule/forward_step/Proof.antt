@@ -1,15 +1,15 @@
--- `Schedule::down` meets its contract: the round, then the step.
+-- `Schedule::forward_step` meets its contract: the round, then the step.
 use mathlib.Core.Path.{ap, _∙_}
 use Rattle.cells.specs.Qarma64.{qarma64}
 use Rattle.cipher.specs.Engine.{forward}
 use borrow.Author.Needs.{needs}
 use Rattle.cells.proofs.Lawful.{lawful64}
 use Rattle.cipher.proofs.Rounds.{forward-word-below}
-use Rattle.cipher.proofs.Schedule.down.Statement.{statement}
-use Rattle.cipher.proofs.Schedule.down.Tie as tie
+use Rattle.cipher.proofs.Schedule.forward_step.Statement.{statement}
+use Rattle.cipher.proofs.Schedule.forward_step.Tie as tie
 
-pub down-spec : {M : Type 1} → statement M
-down-spec =
+pub forward-step-spec : {M : Type 1} → statement M
+forward-step-spec =
     tie.close
     (tie.spec
     (λ c κs. search needs)

@@ -1,13 +1,13 @@
--- `Schedule::up` meets its contract: the step back, then the round.
+-- `Schedule::backward_step` meets its contract: the step back, then the round.
 use mathlib.Core.Path.{ap, _∙_}
 use Rattle.cells.specs.Qarma64.{qarma64}
 use Rattle.cipher.specs.Engine.{backward, backwardWord}
 use borrow.Author.Needs.{needs}
-use Rattle.cipher.proofs.Schedule.up.Statement.{statement}
-use Rattle.cipher.proofs.Schedule.up.Tie as tie
+use Rattle.cipher.proofs.Schedule.backward_step.Statement.{statement}
+use Rattle.cipher.proofs.Schedule.backward_step.Tie as tie
 
-pub up-spec : {M : Type 1} → statement M
-up-spec =
+pub backward-step-spec : {M : Type 1} → statement M
+backward-step-spec =
     tie.close
     (tie.spec
     (λ c κs. search needs)

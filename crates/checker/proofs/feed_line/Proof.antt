@@ -1,4 +1,4 @@
--- `turn` meets its contract: the listing is asked what it may be asked, and its answers stay within their bounds.
+-- `feed_line` meets its contract: the listing is asked what it may be asked, and its answers stay within their bounds.
 use borrow.Author.Needs.{needs}
 use Prim.Native.Nat.{_-_}
 use denote.Ref.{now}
@@ -7,8 +7,8 @@ use mathlib.Core.Bool.{false≢true}
 use native.Mathlib.Omega.{arith}
 use lib.ListN.{length, take, drop, length-drop}
 use Rattle.listing.proofs.Bounds.{feed-bounded, feed-taken, next-kept}
-use Rattle.checker.proofs.turn.Statement.{statement}
-use Rattle.checker.proofs.turn.Tie as tie
+use Rattle.checker.proofs.feed_line.Statement.{statement}
+use Rattle.checker.proofs.feed_line.Tie as tie
 
 returns : tie.Need-returns
 returns c =
@@ -36,8 +36,8 @@ returns-2 c =
       λ e. taken .1 (omega (arith, size, p .1 .1)),
     )
 
-pub turn-spec : {M : Type 1} → statement M
-turn-spec =
+pub feed-line-spec : {M : Type 1} → statement M
+feed-line-spec =
     tie.close
     (tie.spec
     (λ c κs. search needs)

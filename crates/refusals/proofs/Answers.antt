@@ -1,0 +1,70 @@
+-- Document 01, "What a refused caller gets": which refusals a call can give, and that "lent memory is unchanged by all of them".
+use Prim.Native.Nat.{ℕ, _/_, _%_, _^_, _<_}
+use native.Mathlib.Omega.{arith}
+use mathlib.Core.Bool.{Bool, true, false, cond, false≢true}
+use mathlib.Core.Path.{_≡_, refl, sym, ap, _∙_}
+use mathlib.Core.List.{List, [], _∷_}
+use lib.Dec.{eqb}
+use Rattle.words.specs.Cases.{ifLe, ifYes}
+use Rattle.words.proofs.Laws.{le-either}
+use Rattle.refusals.specs.Refusals.{numberOf, placeOf, numbered}
+use Rattle.refusals.specs.declared.Answer.{Answer}
+use Rattle.refusals.specs.declared.Answer.the-variants.{Wrote, Refused}
+use Rattle.refusals.specs.declared.Refusal.{Refusal}
+use Rattle.refusals.specs.declared.Refusal.the-variants.{Settings, Length, Serial, SealedSize, Room, Disagrees, Line}
+
+-- the refusal's number, or 0
+abbrev refusalIn : Answer → ℕ
+refusalIn (Wrote n) = 0
+refusalIn (Refused r) = numberOf r
+
+abbrev wrote : Answer → Bool
+wrote (Wrote n) = true
+wrote (Refused r) = false
+
+-- what `kk_refusal` and `kk_count` of the header take out of the returned number
+pub refusal-shown : (r : Refusal) → placeOf r < 2 ^ 32 → (numbered (Refused r) / 2 ^ 56 ≡ numberOf r) × (numbered (Refused r) % 2 ^ 32 ≡ placeOf r)
+refusal-shown Settings h = (refl, refl)
+refusal-shown Length h = (refl, refl)
+refusal-shown Serial h = (refl, refl)
+refusal-shown SealedSize h = (refl, refl)
+refusal-shown Room h = (refl, refl)
+refusal-shown Disagrees h = (refl, refl)
+refusal-shown (Line p) h = (omega (arith, h), omega (arith, h))
+
+pub count-shown : (n : ℕ) → n < 2 ^ 32 → (numbered (Wrote n) / 2 ^ 56 ≡ 0) × (numbered (Wrote n) % 2 ^ 32 ≡ n)
+count-shown n h = (omega (arith, h), omega (arith, h))
+
+-- an answer is not both written and refused
+pub not-both : {k : ℕ} {r : Refusal} {o p : List ℕ} → _≡_ {A = Answer × List ℕ} (Wrote k, o) (Refused r, p) → ⊥
+not-both e = false≢true (sym (ap (λ (x : Answer × List ℕ). wrote (x .0)) e))
+
+abbrev pub among : ℕ → List ℕ → Bool
+among n [] = false
+among n (k ∷ ks) = cond (eqb n k) true (among n ks)
+
+-- a call that was lent out, and answered and left x, can give no refusals but these, and leaves the memory as it was in each
+pub record Can (ns out : List ℕ) (x : Answer × List ℕ) : Type 0 where
+  pub only : (r : Refusal) (o : List ℕ) → x ≡ (Refused r, o) → (among (numberOf r) ns ≡ true) × (o ≡ out)
+
+module _ {ns out : List ℕ} where
+  pub can-refused : (r : Refusal) → among (numberOf r) ns ≡ true → Can ns out (Refused r, out)
+  can-refused r h = record {
+    only = λ q o e.
+        let same : numberOf q ≡ numberOf r = sym (ap (λ (x : Answer × List ℕ). refusalIn (x .0)) e) in
+        (ap (λ (n : ℕ). among n ns) same ∙ h, sym (ap (λ (x : Answer × List ℕ). x .1) e));
+  }
+
+  pub can-wrote : {k : ℕ} {o : List ℕ} → Can ns out (Wrote k, o)
+  can-wrote = record { only = λ r p e. absurd (not-both e) }
+
+  pub can-same : {x y : Answer × List ℕ} → x ≡ y → Can ns out y → Can ns out x
+  can-same e h = record { only = λ r o f. h .only r o (sym e ∙ f) }
+
+  pub can-le : (m n : ℕ) {x y : Answer × List ℕ} → Can ns out x → Can ns out y → Can ns out (ifLe m n x y)
+  can-le m n hx hy = le-either (Can ns out) m n hx hy
+
+  pub can-yes : (t : Bool) {x y : Answer × List ℕ} → Can ns out x → Can ns out y → Can ns out (ifYes t x y)
+  unfolding ifYes
+  can-yes true hx hy = hx
+  can-yes false hx hy = hy
