@@ -10,6 +10,9 @@ use libc::STDOUT_FILENO;
 use listing::Key;
 use listing::Lister;
 
+// No text that the listing hands out at once is longer.
+const TEXT_MAX: usize = 128;
+
 // What is kept of the listing, how many bytes of the output wait to be written, how many of the piece were taken, and whether to go on.
 struct Progress {
     state: Lister,
@@ -47,7 +50,7 @@ fn room(out: &[u8], used: usize) -> Waiting
     requires { ⌜ (used ≤ length (now out)) × (128 ≤ length (now out)) ⌝ }
     ensures { λ r. ⌜ (r .at + 128 ≤ length (now (out .entry))) × (r .at + 128 < 2 ^ 64) ⌝ }
 {
-    if 128 <= out.len() - used {
+    if TEXT_MAX <= out.len() - used {
         return Waiting {
             at: used,
             going: true,

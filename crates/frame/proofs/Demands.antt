@@ -23,7 +23,7 @@ use Rattle.cipher.specs.Engine.{ScheduleBelow, keySchedule, turned}
 use Rattle.cipher.specs.declared.Schedule.{Schedule}
 use Rattle.cipher.proofs.Demands.{key-below}
 use Rattle.frame.specs.Blocks.{blocks, part, tweak, purpose}
-use Rattle.frame.specs.Frames.{enciphered, sealedSize, sealedBytes, sealing, openedBlock, openedMessage, accepted, opening, SealedFrom, Within}
+use Rattle.frame.specs.Frames.{frameEngine, sealedSize, sealedBytes, sealing, openedBlock, openedMessage, accepted, opening, SealedFrom, Within}
 use Rattle.frame.proofs.Fills.{fill-found}
 use Rattle.frame.proofs.Limits.{goes-on, can-limited}
 use Rattle.frame.proofs.Opening.{accepted-sealed, accepted-both, sealed-size, sealed-accepted, sealed-message}
@@ -157,11 +157,11 @@ one-fill w r q hr hq er eq l =
 module _ {s : Schedule} (g : ScheduleBelow 4 s) (serial : ℕ) (a c : List ℕ) where
   -- the last block at a length with a fill
   last-fill : (n q : ℕ) → n / 8 ≡ q → 1 ≤ n % 8 → SealedFrom s serial a n c
-      → enciphered (turned qarma64 s) (tweak 1 serial q) (word 8 (part c q)) % 2 ^ (64 - n % 8 * 8) ≡ 2 ^ (63 - n % 8 * 8)
+      → frameEngine (turned qarma64 s) (tweak 1 serial q) (word 8 (part c q)) % 2 ^ (64 - n % 8 * 8) ≡ 2 ^ (63 - n % 8 * 8)
   unfolding purpose
   last-fill n q e h x =
       let one : 1 ≡ purpose 0 n q = gt-case (q * 8 + 8) n 0 1 (omega arith) in
-      ap (λ (i : ℕ). enciphered (turned qarma64 s) (tweak i serial q) (word 8 (part c q)) % 2 ^ (64 - n % 8 * 8)) one
+      ap (λ (i : ℕ). frameEngine (turned qarma64 s) (tweak i serial q) (word 8 (part c q)) % 2 ^ (64 - n % 8 * 8)) one
       ∙ ap (λ (i : ℕ). openedBlock (turned qarma64 s) serial n c i % 2 ^ (64 - n % 8 * 8)) (sym e)
       ∙ fill-found n (openedBlock (turned qarma64 s) serial n c (n / 8)) h (accepted-both g serial a n c (sealed-accepted g serial a x) .0)
 
@@ -172,7 +172,7 @@ module _ {s : Schedule} (g : ScheduleBelow 4 s) (serial : ℕ) (a c : List ℕ) 
       let q : k / 8 ≡ n / 8 = omega arith in
       let fn = last-fill n (n / 8) refl hn x in
       let fk = last-fill k (n / 8) q hk y in
-      let w = enciphered (turned qarma64 s) (tweak 1 serial (n / 8)) (word 8 (part c (n / 8))) in
+      let w = frameEngine (turned qarma64 s) (tweak 1 serial (n / 8)) (word 8 (part c (n / 8))) in
       elim (eq-zero-or-pos (k % 8 - n % 8)) [
         | inr e ↦ absurd (one-fill w (n % 8) (k % 8) (omega arith) (omega arith) fn fk (omega arith))
         | inl e ↦

@@ -7,11 +7,13 @@ use Prim.Native.Nat.{ℕ, zero, suc, _+_, _-_, _*_, _/_, _%_, _^_, _<_, _≤_}
 use native.Mathlib.Nat.{add-mul, mul-assoc, mod-lt, eq-or-lt-of-le}
 use native.Mathlib.Omega.{arith}
 use borrow.Author.Tests.{eq-eqb, eqb-true}
-use lib.ListN.{length, take, replicate}
+use lib.Dec.{eqb}
+use lib.ListN.{length, take, drop, replicate}
 use lib.Pow.{pow-add, pow-lt, shr-lt, split, low}
-use lib.Seq.{take-at, take-length, length-take-le}
+use lib.Seq.{take-at, drop-at, take-length, length-take-le}
+use Rattle.words.specs.Cases.{ifLe}
 use Rattle.words.specs.Digits.{word, digits, Digits}
-use Rattle.words.proofs.Laws.{word-append, word-digits, digits-word, word-fits, length-digits, le-case, gt-case}
+use Rattle.words.proofs.Laws.{word-append, word-low, word-digits, digits-add, digits-word, word-fits, length-digits, le-case, gt-case}
 use Rattle.frame.specs.Blocks.{filled}
 use Rattle.frame.specs.Frames.{fillRight}
 use Rattle.frame.proofs.Laws.{padded, padded-bytes, padded-eight, whole-filled, short-filled, word-zeros, first-bytes}
@@ -37,20 +39,39 @@ pub fill-none : (n w : ℕ) → n % 8 ≡ 0 → fillRight n w ≡ true
 unfolding fillRight
 fill-none n w e = sym (le-case (n % 8) 0 _ _ (omega arith))
 
-pub fill-made : (n : ℕ) (p : List ℕ) → 1 ≤ n % 8 → length p ≡ n % 8 → fillRight n (word 8 (filled p)) ≡ true
+-- the bytes past the length, as the low bits of the block: a one and zeros
+past : (r w : ℕ) → r ≤ 8 → word 8 (drop r (digits 8 8 w)) ≡ w % 2 ^ (64 - r * 8)
+past r w h =
+    let e : r + (8 - r) ≡ 8 = omega arith in
+    let d : 8 * (8 - r) ≡ 64 - r * 8 = omega arith in
+    ap (λ (k : ℕ). word 8 (drop r (digits 8 k w))) (sym e)
+    ∙ ap (λ (l : List ℕ). word 8 (drop r l)) (digits-add 8 r (8 - r) w)
+    ∙ ap (word 8) (drop-at (digits 8 r (w / 2 ^ (8 * (8 - r)))) (digits 8 (8 - r) w) r (length-digits 8 r _))
+    ∙ word-low 8 (8 - r) w
+    ∙ ap (λ (k : ℕ). w % 2 ^ k) d
+
+mark : (r : ℕ) → r < 8 → word 8 (0x80 ∷ replicate (7 - r) 0) ≡ 2 ^ (63 - r * 8)
+mark r h =
+    let d : 7 + 8 * (7 - r) ≡ 63 - r * 8 = omega arith in
+    word-zeros 8 0x80 (7 - r) ∙ sym (pow-add 2 7 (8 * (7 - r))) ∙ ap (λ (k : ℕ). 2 ^ k) d
+
+pub fill-bits : (n w : ℕ) → fillRight n w ≡ ifLe (n % 8) 0 true (eqb (w % 2 ^ (64 - n % 8 * 8)) (2 ^ (63 - n % 8 * 8)))
 unfolding fillRight
+fill-bits n w = ap₂ (λ (x y : ℕ). ifLe (n % 8) 0 true (eqb x y)) (past (n % 8) w (omega arith)) (mark (n % 8) (omega arith))
+
+pub fill-made : (n : ℕ) (p : List ℕ) → 1 ≤ n % 8 → length p ≡ n % 8 → fillRight n (word 8 (filled p)) ≡ true
 fill-made n p h e =
     let r = length p in
     let found : word 8 (filled p) % 2 ^ (64 - r * 8) ≡ 2 ^ (63 - r * 8) =
     ap (λ (w : ℕ). w % 2 ^ (64 - r * 8)) (fill-value p (omega arith)) ∙ low (word 8 p) (64 - r * 8) (pow-lt (omega arith)) in
-    sym (gt-case (n % 8) 0 _ _ h)
+    fill-bits n (word 8 (filled p))
+    ∙ sym (gt-case (n % 8) 0 _ _ h)
     ∙ eq-eqb (word 8 (filled p) % 2 ^ (64 - n % 8 * 8)) (2 ^ (63 - n % 8 * 8)) (subst (λ (x : ℕ). word 8 (filled p) % 2 ^ (64 - x * 8) ≡ 2 ^ (63 - x * 8)) e found)
 
 -- ---- looked for
 
 pub fill-found : (n w : ℕ) → 1 ≤ n % 8 → fillRight n w ≡ true → w % 2 ^ (64 - n % 8 * 8) ≡ 2 ^ (63 - n % 8 * 8)
-unfolding fillRight
-fill-found n w h e = eqb-true (w % 2 ^ (64 - n % 8 * 8)) (2 ^ (63 - n % 8 * 8)) (gt-case (n % 8) 0 _ _ h ∙ e)
+fill-found n w h e = eqb-true (w % 2 ^ (64 - n % 8 * 8)) (2 ^ (63 - n % 8 * 8)) (gt-case (n % 8) 0 _ _ h ∙ sym (fill-bits n w) ∙ e)
 
 -- the first bytes of a word with that fill, filled again
 pub fill-again : (r w : ℕ) → r < 8 → w < 2 ^ 64 → w % 2 ^ (64 - r * 8) ≡ 2 ^ (63 - r * 8) → word 8 (filled (take r (digits 8 8 w))) ≡ w

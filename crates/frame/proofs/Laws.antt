@@ -145,4 +145,4 @@ only-filled (suc r) u w a g h = ap (λ (x : ℕ). ifLe (suc r) 0 a (g x)) (h (om
 pub fill-same : (n : ℕ) (f : ℕ → ℕ) (l : List ℕ) → take (blocks n) l ≡ upto (blocks n) f → fillRight n (getD l (n / 8) 0) ≡ fillRight n (f (n / 8))
 unfolding fillRight
 fill-same n f l e =
-    only-filled (n % 8) (getD l (n / 8) 0) (f (n / 8)) true (λ w. eqb (w % 2 ^ (64 - n % 8 * 8)) (2 ^ (63 - n % 8 * 8))) (λ h. word-at (blocks n) f l e (n / 8) (omega arith))
+    only-filled (n % 8) (getD l (n / 8) 0) (f (n / 8)) true (λ w. eqb (word 8 (drop (n % 8) (digits 8 8 w))) (word 8 (0x80 ∷ replicate (7 - n % 8) 0))) (λ h. word-at (blocks n) f l e (n / 8) (omega arith))

@@ -23,7 +23,7 @@ use Rattle.cipher.specs.declared.Schedule.{Schedule}
 use Rattle.cipher.proofs.Rounds.{turned-below}
 use Rattle.cipher.proofs.Demands.{word-below, word-undone, word-redone}
 use Rattle.frame.specs.Blocks.{blocks, part, filled, block, tweak, purpose, tagPurpose}
-use Rattle.frame.specs.Frames.{enciphered, labelSum, tagOf, sealedSize, sealedBytes, openedBlock, openedMessage, fillRight, accepted, SealedFrom}
+use Rattle.frame.specs.Frames.{frameEngine, labelSum, tagOf, sealedSize, sealedBytes, openedBlock, openedMessage, fillRight, accepted, SealedFrom}
 use Rattle.frame.proofs.Laws.{whole-filled}
 use Rattle.frame.proofs.Fills.{fill-none, fill-made, fill-found, fill-again, fill-off, filled-fits}
 use Rattle.frame.proofs.Parts.{part-take, part-laid, part-behind, part-word, same-parts}
@@ -53,7 +53,7 @@ module _ {s : Schedule} (g : ScheduleBelow 4 s) (serial : ℕ) (a : List ℕ) wh
   abbrev u : Schedule
   u = turned qarma64 s
 
-  enciphered-below : (t p : ℕ) → enciphered s t p < 2 ^ 64
+  enciphered-below : (t p : ℕ) → frameEngine s t p < 2 ^ 64
   enciphered-below t p = word-below 1 7 (omega arith) g t p
 
   tag-below : (n total : ℕ) → tagOf s serial a n total < 2 ^ 64
@@ -61,7 +61,7 @@ module _ {s : Schedule} (g : ScheduleBelow 4 s) (serial : ℕ) (a : List ℕ) wh
 
   -- the sealed bytes of a message of n bytes whose blocks are f 0, f 1, ..
   abbrev sealedAs : ℕ → (ℕ → ℕ) → List ℕ
-  sealedAs n f = laid (blocks n) (λ i. enciphered s (tweak (purpose 0 n i) serial i) (f i)) ++ digits 8 8 (tagOf s serial a n (sum (blocks n) f))
+  sealedAs n f = laid (blocks n) (λ i. frameEngine s (tweak (purpose 0 n i) serial i) (f i)) ++ digits 8 8 (tagOf s serial a n (sum (blocks n) f))
 
   sealed-as : (m : List ℕ) → sealedBytes s serial a m ≡ sealedAs (length m) (block m)
   unfolding sealedBytes
@@ -118,14 +118,14 @@ module _ {s : Schedule} (g : ScheduleBelow 4 s) (serial : ℕ) (a : List ℕ) wh
 
     block-part : (i : ℕ) → i < blocks n → part (sealedAs n f) i ≡ part c i
     block-part i h =
-        part-laid (blocks n) (λ j. enciphered s (tweak (purpose 0 n j) serial j) (f j)) (digits 8 8 (tagOf s serial a n (sum (blocks n) f))) i h
+        part-laid (blocks n) (λ j. frameEngine s (tweak (purpose 0 n j) serial j) (f j)) (digits 8 8 (tagOf s serial a n (sum (blocks n) f))) i h
         ∙ ap (digits 8 8) (word-redone 1 7 (omega arith) g (tweak (purpose 0 n i) serial i) (part-fits i))
         ∙ part-word i hc (omega arith)
 
     tag-part : (i : ℕ) → i ≡ blocks n → part (sealedAs n f) i ≡ part c i
     tag-part i e =
         ap (part (sealedAs n f)) e
-        ∙ part-behind (blocks n) (λ j. enciphered s (tweak (purpose 0 n j) serial j) (f j)) (tagOf s serial a n (sum (blocks n) f))
+        ∙ part-behind (blocks n) (λ j. frameEngine s (tweak (purpose 0 n j) serial j) (f j)) (tagOf s serial a n (sum (blocks n) f))
         ∙ ap (digits 8 8) (accepted-both n c yes .1)
         ∙ part-word (blocks n) hc (omega arith)
         ∙ ap (part c) (sym e)
@@ -139,7 +139,7 @@ module _ {s : Schedule} (g : ScheduleBelow 4 s) (serial : ℕ) (a : List ℕ) wh
 
     blocks-back : sealedAs n (block m) ≡ sealedAs n f
     blocks-back =
-        ap₂ _++_ (laid-same (blocks n) (λ i h. ap (enciphered s (tweak (purpose 0 n i) serial i)) (block-back i h)))
+        ap₂ _++_ (laid-same (blocks n) (λ i h. ap (frameEngine s (tweak (purpose 0 n i) serial i)) (block-back i h)))
         (ap (λ (x : ℕ). digits 8 8 (tagOf s serial a n x)) (sum-same (blocks n) block-back))
 
     pub accepted-sealed : SealedFrom s serial a n c
@@ -170,8 +170,8 @@ module _ {s : Schedule} (g : ScheduleBelow 4 s) (serial : ℕ) (a : List ℕ) wh
     opened-block : (i : ℕ) → i < blocks n → deciphered i ≡ block m i
     opened-block i h =
         let t = tweak (purpose 0 n i) serial i in
-        ap (λ (p : List ℕ). enciphered u t (word 8 p)) (part-laid (blocks n) (λ j. enciphered s (tweak (purpose 0 n j) serial j) (block m j)) (digits 8 8 (tagOf s serial a n (sum (blocks n) (block m)))) i h)
-        ∙ ap (enciphered u t) (word-digits 8 8 (enciphered s t (block m i)) (enciphered-below t (block m i)))
+        ap (λ (p : List ℕ). frameEngine u t (word 8 p)) (part-laid (blocks n) (λ j. frameEngine s (tweak (purpose 0 n j) serial j) (block m j)) (digits 8 8 (tagOf s serial a n (sum (blocks n) (block m)))) i h)
+        ∙ ap (frameEngine u t) (word-digits 8 8 (frameEngine s t (block m i)) (enciphered-below t (block m i)))
         ∙ word-undone 1 7 (omega arith) g t (filled-fits (part-bytes i hm) (part-size m i))
 
     fill-yes : fillRight n (deciphered (n / 8)) ≡ true
@@ -187,7 +187,7 @@ module _ {s : Schedule} (g : ScheduleBelow 4 s) (serial : ℕ) (a : List ℕ) wh
         eq-eqb _ _
         (ap (tagOf s serial a n) (sum-same (blocks n) opened-block)
         ∙ sym (word-digits 8 8 w (tag-below n _))
-        ∙ ap (word 8) (sym (part-behind (blocks n) (λ j. enciphered s (tweak (purpose 0 n j) serial j) (block m j)) w)))
+        ∙ ap (word 8) (sym (part-behind (blocks n) (λ j. frameEngine s (tweak (purpose 0 n j) serial j) (block m j)) w)))
 
     accepted-as : accepted s serial a n c ≡ true
     unfolding accepted

@@ -1,10 +1,10 @@
 -- Document 01, "Sealing and opening": the tag, the sealed bytes, and what sealing and opening answer and leave.
 use mathlib.Core.Bool.{Bool, true, false}
 use mathlib.Core.Path.{_≡_}
-use mathlib.Core.List.{List, _++_}
+use mathlib.Core.List.{List, _∷_, _++_}
 use Prim.Native.Nat.{ℕ, _+_, _-_, _*_, _/_, _%_, _^_, _≤_}
 use lib.Dec.{eqb}
-use lib.ListN.{length, take, drop}
+use lib.ListN.{length, take, drop, replicate}
 use Rattle.words.specs.Cases.{ifLe, ifYes}
 use Rattle.words.specs.Digits.{_⊕_, word, digits, Digits, laid}
 use Rattle.refusals.specs.declared.Answer.{Answer}
@@ -18,12 +18,12 @@ use Rattle.cipher.specs.declared.Schedule.{Schedule}
 use Rattle.frame.specs.Blocks.{blocks, part, block, tweak, purpose, tagPurpose}
 
 -- Document 01, "Sizes": "Frames use box 1 and r = 7." The label is called a here, the sealed bytes c, and n is the length of the message.
-abbrev pub enciphered : Schedule → ℕ → ℕ → ℕ
-enciphered s t p = engineWord 1 7 s t p
+abbrev pub frameEngine : Schedule → ℕ → ℕ → ℕ
+frameEngine s t p = engineWord 1 7 s t p
 
 -- "Each message block is enciphered under its tweak. .. The index is the block's number from 0": block i of some bytes, by the purpose of a whole one
 abbrev pub sealedBlock : Schedule → ℕ → ℕ → List ℕ → ℕ → ℕ
-sealedBlock s whole serial x i = enciphered s (tweak (purpose whole (length x) i) serial i) (block x i)
+sealedBlock s whole serial x i = frameEngine s (tweak (purpose whole (length x) i) serial i) (block x i)
 
 -- "the sum of all enciphered label blocks (zero if none)"
 abbrev pub labelSum : Schedule → ℕ → List ℕ → ℕ
@@ -32,7 +32,7 @@ labelSum s serial a = sum (blocks (length a)) (sealedBlock s 2 serial a)
 -- "For the tag, the engine runs on the sum of all message blocks alone ..; to its answer the sum of all enciphered label blocks .. is then added.";
 -- "for the tag" the index is "the number of message blocks"
 abbrev pub tagOf : Schedule → ℕ → List ℕ → ℕ → ℕ → ℕ
-tagOf s serial a n messageSum = enciphered s (tweak (tagPurpose n) serial (blocks n)) messageSum ⊕ labelSum s serial a
+tagOf s serial a n messageSum = frameEngine s (tweak (tagPurpose n) serial (blocks n)) messageSum ⊕ labelSum s serial a
 
 -- "The sealed bytes are the enciphered blocks and then the 8 tag bytes."
 abbrev pub sealedSize : ℕ → ℕ
@@ -64,7 +64,7 @@ sealing w0 k0 serial a m out =
 
 -- Opening: block i of the sealed bytes c of a message of n bytes, under the turned schedule u
 abbrev pub openedBlock : Schedule → ℕ → ℕ → List ℕ → ℕ → ℕ
-openedBlock u serial n c i = enciphered u (tweak (purpose 0 n i) serial i) (word 8 (part c i))
+openedBlock u serial n c i = frameEngine u (tweak (purpose 0 n i) serial i) (word 8 (part c i))
 
 -- "the first bytes up to the message length"
 abbrev pub openedMessage : Schedule → ℕ → ℕ → List ℕ → List ℕ
@@ -72,7 +72,7 @@ openedMessage u serial n c = take n (laid (blocks n) (openedBlock u serial n c))
 
 -- "for a filled last block, the bytes past the length are exactly 80 and then 00s": the last block w of n bytes
 unfoldable pub fillRight : ℕ → ℕ → Bool
-fillRight n w = ifLe (n % 8) 0 true (eqb (w % 2 ^ (64 - n % 8 * 8)) (2 ^ (63 - n % 8 * 8)))
+fillRight n w = ifLe (n % 8) 0 true (eqb (word 8 (drop (n % 8) (digits 8 8 w))) (word 8 (0x80 ∷ replicate (7 - n % 8) 0)))
 
 -- "It accepts when the tag agrees and, for a filled last block, .."
 unfoldable pub accepted : Schedule → ℕ → List ℕ → ℕ → List ℕ → Bool

@@ -11,7 +11,7 @@ ghost use Rattle.words.specs.Digits.{word, laid};
 ghost use Rattle.cells.specs.Lists.{sum, upto};
 ghost use Rattle.cipher.specs.Engine.{ScheduleBelow, turned};
 ghost use Rattle.frame.specs.Blocks.{blocks, filled, block, tweak, purpose, tagPurpose};
-ghost use Rattle.frame.specs.Frames.{enciphered, sealedBlock, labelSum, tagOf, sealedSize, sealedBytes, sealing, openedBlock, fillRight, accepted, opening};
+ghost use Rattle.frame.specs.Frames.{frameEngine, sealedBlock, labelSum, tagOf, sealedSize, sealedBytes, sealing, openedBlock, fillRight, accepted, opening};
 ghost use Rattle.cells.specs.Qarma64.{qarma64};
 
 const MESSAGE_MAX: usize = 1024;
@@ -74,10 +74,10 @@ fn tweak_of(what: u64, serial: u64, index: u64) -> u64
     what * 0x1000000000000000 + serial * 0x10000 + index
 }
 
-// A block enciphered with box 1 and r = 7.
-fn encipher(s: Schedule, t: u64, p: u64) -> u64
+// The engine with box 1 and r = 7: under a schedule it enciphers a block, under the turned one it deciphers it.
+fn engine(s: Schedule, t: u64, p: u64) -> u64
     requires { ⌜ ScheduleBelow 4 s ⌝ }
-    ensures { λ r. ⌜ r ≡ enciphered s t p ⌝ }
+    ensures { λ r. ⌜ r ≡ frameEngine s t p ⌝ }
 {
     s.run(1, 7, Cells::of(t), Cells::of(p)).word()
 }
@@ -88,7 +88,7 @@ fn seal_block(s: Schedule, whole: u64, serial: u64, bytes: &[u8], i: usize) -> u
     ensures { λ r. ⌜ r ≡ sealedBlock s whole serial (now (bytes .entry)) i ⌝ }
 {
     let t = tweak_of(block_purpose(whole, bytes.len(), i), serial, i as u64);
-    encipher(s, t, block_at(bytes, i))
+    engine(s, t, block_at(bytes, i))
 }
 
 // The sum of the blocks of some bytes.
@@ -128,7 +128,7 @@ fn tag(s: Schedule, serial: u64, label: &[u8], n: usize, message_sum: u64) -> u6
 {
     let index = (n + 7) / 8;
     let t = tweak_of(tag_purpose(n), serial, index as u64);
-    encipher(s, t, message_sum) ^ sum_label(s, serial, label)
+    engine(s, t, message_sum) ^ sum_label(s, serial, label)
 }
 
 // Writes each enciphered block of a message into its own place of out.
@@ -164,7 +164,7 @@ fn open_block(u: Schedule, serial: u64, n: usize, sealed: &[u8], i: usize) -> u6
 {
     let t = tweak_of(block_purpose(0, n, i), serial, i as u64);
     let at = i * 8;
-    encipher(u, t, words::read(&sealed[at..at + 8], 8))
+    engine(u, t, words::read(&sealed[at..at + 8], 8))
 }
 
 // Every block of the sealed bytes of a message of n bytes, deciphered.

@@ -38,7 +38,7 @@ returning a = (numbered (a .0), a .1)
 
 -- "`kk_read_line` five words, 40 bytes: serial, label length, message length, the label's place, the sealed bytes' place"; "7 first for line calls"
 abbrev pub readingGiven : Reading → List ℕ → Answer × List ℕ
-readingGiven (Fields serial l n label sealed) out = given (serial ∷ l ∷ n ∷ label ∷ sealed ∷ []) out
+readingGiven (Fields serial l n labelPlace sealedPlace) out = given (serial ∷ l ∷ n ∷ labelPlace ∷ sealedPlace ∷ []) out
 readingGiven (NotLine k) out = (Refused (Line k), out)
 
 -- what is given is the reading that the paper asks for

@@ -41,7 +41,7 @@ bytes-hex xs ys p e (more {d = b} {ds = l} hb h) =
 
 module _ (f : Frame) (h : Limits f) where
   head : List ℕ
-  head = 48 ∷ 49 ∷ 48 ∷ (hexDigits 11 (f .serial) ++ (hexDigits 2 (length (f .label)) ++ hexDigits 4 (f .message)))
+  head = 48 ∷ 49 ∷ 48 ∷ (hexDigits 11 (f .serial) ++ (hexDigits 2 (length (f .label)) ++ hexDigits 4 (f .messageLength)))
 
   head-length : length head ≡ 20
   unfolding head
@@ -54,19 +54,19 @@ module _ (f : Frame) (h : Limits f) where
   label-is : bytesAt (lineOf f) 20 (length (f .label)) ≡ f .label
   label-is = ap (λ (z : List ℕ). bytesAt z 20 (length (f .label))) line-head ∙ bytes-hex head (hex (f .sealed) ++ (10 ∷ [])) 20 head-length (h .label-bytes)
 
-  sealed-is : bytesAt (lineOf f) (20 + 2 * length (f .label)) (sealedSize (f .message)) ≡ f .sealed
+  sealed-is : bytesAt (lineOf f) (20 + 2 * length (f .label)) (sealedSize (f .messageLength)) ≡ f .sealed
   sealed-is =
       ap₂ (λ (z : List ℕ) (n : ℕ). bytesAt z (20 + 2 * length (f .label)) n) (line-head ∙ sym (append-assoc head (hex (f .label)) (hex (f .sealed) ++ (10 ∷ [])))) (sym (h .sealed))
       ∙ bytes-hex (head ++ hex (f .label)) (10 ∷ []) (20 + 2 * length (f .label)) (length-append head (hex (f .label)) ∙ ap₂ _+_ head-length (length-hex (f .label))) (h .sealed-bytes)
 
 -- opening a good line passes on what opening its frame gives
-pub passes-on : (w0 k0 : ℕ) (s out : List ℕ) (f : Frame) → LineOf s f → openingLine w0 k0 s out ≡ opening w0 k0 (f .serial) (f .message) (f .label) (f .sealed) out
+pub passes-on : (w0 k0 : ℕ) (s out : List ℕ) (f : Frame) → LineOf s f → openingLine w0 k0 s out ≡ opening w0 k0 (f .serial) (f .messageLength) (f .label) (f .sealed) out
 unfolding openingLine
 passes-on w0 k0 s out f l =
     ap (λ (r : Reading). openingAs w0 k0 s r out) (sym (reads-reading s (fieldsOf f) (fields f l)))
-    ∙ ap₂ (λ (a c : List ℕ). opening w0 k0 (f .serial) (f .message) a c out)
+    ∙ ap₂ (λ (a c : List ℕ). opening w0 k0 (f .serial) (f .messageLength) a c out)
     (ap (λ (z : List ℕ). bytesAt z 20 (length (f .label))) (l .line) ∙ label-is f (l .limits))
-    (ap (λ (z : List ℕ). bytesAt z (20 + 2 * length (f .label)) (sealedSize (f .message))) (l .line) ∙ sealed-is f (l .limits))
+    (ap (λ (z : List ℕ). bytesAt z (20 + 2 * length (f .label)) (sealedSize (f .messageLength))) (l .line) ∙ sealed-is f (l .limits))
 
 -- and another line is refused, 7, with its place
 pub not-a-line : (w0 k0 : ℕ) (s out : List ℕ) (k : ℕ) → (GoodLine s → ⊥) → Place s k → openingLine w0 k0 s out ≡ (Refused (Line k), out)
@@ -94,7 +94,7 @@ open-line-can w0 k0 s out = go (reading s) (reading-reads s)
     go r (fields f l) =
         let h = l .limits in
         can-same (passes-on w0 k0 s out f l)
-        (can-five-six w0 k0 (f .serial) (f .label) (f .message) (f .sealed) out (record { message = h .message; label = h .label; serial = omega (arith, h .serial) }) refl refl (h .sealed))
+        (can-five-six w0 k0 (f .serial) (f .label) (f .messageLength) (f .sealed) out (record { message = h .message; label = h .label; serial = omega (arith, h .serial) }) refl refl (h .sealed))
 
 module _ {w0 k0 : ℕ} {s : List ℕ} where
   -- what is written is a good line, whose fields are what went in
@@ -141,12 +141,12 @@ module _ {w0 k0 : ℕ} {s : List ℕ} where
   opened-as out r (refused p n q) k o e = absurd (not-both (sym e ∙ not-a-line w0 k0 s out p n q))
   opened-as out r (fields f l) k o e =
       let h = l .limits in
-      let w : Within (f .serial) (f .label) (f .message) = record { message = h .message; label = h .label; serial = omega (arith, h .serial) } in
-      let opened : opening w0 k0 (f .serial) (f .message) (f .label) (f .sealed) out ≡ (Wrote k, o) = sym (passes-on w0 k0 s out f l) ∙ e in
-      let x : SealedFrom (keySchedule 4 w0 k0) (f .serial) (f .label) (f .message) (f .sealed) =
-      elim (eq-zero-or-pos (f .message - length out)) [
-        | inl z ↦ opens-only w0 k0 (f .serial) (f .label) (f .message) (f .sealed) out w (omega arith) (h .sealed-bytes) k o opened
-        | inr z ↦ absurd (not-both (sym opened ∙ no-room w0 k0 (f .serial) (f .label) (f .message) (f .sealed) out w (h .sealed) (omega arith)))
+      let w : Within (f .serial) (f .label) (f .messageLength) = record { message = h .message; label = h .label; serial = omega (arith, h .serial) } in
+      let opened : opening w0 k0 (f .serial) (f .messageLength) (f .label) (f .sealed) out ≡ (Wrote k, o) = sym (passes-on w0 k0 s out f l) ∙ e in
+      let x : SealedFrom (keySchedule 4 w0 k0) (f .serial) (f .label) (f .messageLength) (f .sealed) =
+      elim (eq-zero-or-pos (f .messageLength - length out)) [
+        | inl z ↦ opens-only w0 k0 (f .serial) (f .label) (f .messageLength) (f .sealed) out w (omega arith) (h .sealed-bytes) k o opened
+        | inr z ↦ absurd (not-both (sym opened ∙ no-room w0 k0 (f .serial) (f .label) (f .messageLength) (f .sealed) out w (h .sealed) (omega arith)))
       ] in
       record {
         serial = f .serial;

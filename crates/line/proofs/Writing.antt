@@ -11,15 +11,14 @@ use lib.Seq.{drop-cons, lt-length-set, getD-set-same, drop-set-lt, take-suc, tak
 use Rattle.words.proofs.Laws.{mid-turn}
 use Rattle.line.specs.Line.{hexDigit, hexDigits, hex, Frame, lineOf}
 use Rattle.line.specs.Calls.{frameOf}
-use Rattle.line.proofs.Written.{length-hex, length-hex-digits}
+use Rattle.line.proofs.Written.{length-hex, length-hex-digits, hex-more}
 
 -- the last digit of x goes to i - 1
 pub digits-turn : (i x : ℕ) (out : List ℕ) → 0 < i → i ≤ length out
     → hexDigits (i - 1) (x / 16) ++ drop (i - 1) (set out (i - 1) (hexDigit (x % 16))) ≡ hexDigits i x ++ drop i out
-unfolding hexDigits
 digits-turn zero x out h k = absurd (omega arith)
 digits-turn (suc i) x out h k =
-    rw (sub-one, append-assoc, drop-cons (set out i (hexDigit (x % 16))) i 0 (lt-length-set out i _ k), getD-set-same out i _ 0 k, drop-set-lt (suc i) out i _ (le-refl (suc i)))
+    rw (sub-one, hex-more i x, append-assoc, drop-cons (set out i (hexDigit (x % 16))) i 0 (lt-length-set out i _ k), getD-set-same out i _ 0 k, drop-set-lt (suc i) out i _ (le-refl (suc i)))
 
 -- k bytes from the middle of a list
 pub middle : (a k e : ℕ) (l : List ℕ) → a + k ≡ e → e ≤ length l → length (take (e - a) (drop a l)) ≡ k

@@ -1,7 +1,7 @@
 -- What has the shape of a line and its length is the line of a frame, and the other way round.
 use Prim.Native.Nat.{ℕ, zero, suc, _+_, _-_, _*_, _/_, _%_, _^_, _≤_, _<_, zero-le}
 use mathlib.Core.Path.{_≡_, refl, sym, ap, ap₂, _∙_, subst}
-use mathlib.Core.List.{List, [], _∷_, _++_, append-assoc, append-nil}
+use mathlib.Core.List.{List, [], _∷_, _++_, map, append-assoc, append-nil}
 use mathlib.Core.Bool.{Bool, true, false, cond}
 use native.Mathlib.Nat.{le-of-suc-le-suc, not-suc-le-zero, le-refl, lt-irrefl, mul-zero, add-zero, zero-add, div-add-mod', mod-lt, div-lt-iff-lt-mul, pow-suc, mul-comm, div-one, div-eq-of-lt, div-div-eq-div-mul}
 use native.Mathlib.Omega.{arith}
@@ -11,7 +11,7 @@ use lib.Seq.{getD-append-add, getD-append-seam, append-snoc, getD-at, drop-cons}
 use lib.Arith.{digits-lt, digits-div, digits-mod}
 use lib.Dec.{ltb, eqb, lit<}
 use borrow.Author.Tests.{lt-ltb, le-ltb, ltb-true, ltb-false, eq-eqb, ne-eqb, eqb-true}
-use Rattle.words.specs.Digits.{Digits, none, more}
+use Rattle.words.specs.Digits.{digits, Digits, none, more}
 use Rattle.frame.specs.Frames.{sealedSize}
 use Rattle.line.specs.Line.{hexDigit, hexDigits, hex, Frame, Limits, lineOf, LineOf, GoodLine}
 use Rattle.line.specs.Reader.{hexValue, numberAt, serialOf, labelLength, messageLength, endOf, bytesAt, stands}
@@ -28,10 +28,22 @@ value-digit n h =
     simp (le-ltb n 10 l, le-ltb (n + 87) 48 (omega arith), le-ltb (n + 87) 58 (omega arith), le-ltb (n + 87) 97 (omega arith), lt-ltb (n + 87) 103 (omega arith))
     (omega arith))
 
-pub length-hex-digits : (k n : ℕ) → length (hexDigits k n) ≡ k
+-- the digits of a number: none, or one more behind those of its sixteenth
+map-append : (f : ℕ → ℕ) (l r : List ℕ) → map f (l ++ r) ≡ map f l ++ map f r
+map-append f [] r = refl
+map-append f (x ∷ l) r = ap (λ (z : List ℕ). f x ∷ z) (map-append f l r)
+
+pub hex-none : (n : ℕ) → hexDigits 0 n ≡ []
 unfolding hexDigits
-length-hex-digits zero n = refl
-length-hex-digits (suc k) n = length-append (hexDigits k (n / 16)) _ ∙ rw (length-hex-digits k (n / 16)) (omega arith)
+hex-none n = refl
+
+pub hex-more : (k n : ℕ) → hexDigits (suc k) n ≡ hexDigits k (n / 16) ++ hexDigit (n % 16) ∷ []
+unfolding hexDigits
+hex-more k n = map-append hexDigit (digits 4 k (n / 16)) (n % 16 ∷ [])
+
+pub length-hex-digits : (k n : ℕ) → length (hexDigits k n) ≡ k
+length-hex-digits zero n = ap length (hex-none n)
+length-hex-digits (suc k) n = ap length (hex-more k n) ∙ length-append (hexDigits k (n / 16)) _ ∙ rw (length-hex-digits k (n / 16)) (omega arith)
 
 digit-value : (b : ℕ) → hexValue b < 16 → hexDigit (hexValue b) ≡ b
 unfolding hexValue hexDigit
@@ -52,7 +64,7 @@ digit-value b = go (ltb b 48) (ltb b 58) (ltb b 97) (ltb b 103) refl refl refl r
 
 -- the number that is read is the one that was written
 pub num-digits : (xs ys : List ℕ) (a k n : ℕ) → length xs ≡ a → n < 16 ^ k → numberAt (xs ++ (hexDigits k n ++ ys)) a k ≡ n
-unfolding numberAt hexDigits
+unfolding numberAt
 num-digits xs ys a zero n e h = omega arith
 num-digits xs ys a (suc k) n e h =
     let d : ℕ = hexDigit (n % 16) in
@@ -63,7 +75,7 @@ num-digits xs ys a (suc k) n e h =
     ap (λ (z : List ℕ). getD z (a + k) 48) (sym (append-assoc xs ds (d ∷ ys)))
     ∙ getD-at (xs ++ ds) d ys 48 (a + k) (length-append xs ds ∙ ap₂ (λ (x y : ℕ). x + y) e (length-hex-digits k (n / 16)))
     in
-    rw (p, q, num-digits xs (d ∷ ys) a k (n / 16) e l, value-digit (n % 16) (mod-lt n (lit< tt))) (div-add-mod' n 16)
+    rw (hex-more k n, p, q, num-digits xs (d ∷ ys) a k (n / 16) e l, value-digit (n % 16) (mod-lt n (lit< tt))) (div-add-mod' n 16)
 
 -- ---- the top digit of a serial
 
@@ -71,14 +83,16 @@ digit-first : (k n : ℕ) → hexDigits (suc k) n ≡ hexDigit (n / 16 ^ k % 16)
 unfolding hexDigits
 digit-first zero n = rw div-one
 digit-first (suc k) n =
-    ap (λ (l : List ℕ). l ++ hexDigit (n % 16) ∷ []) (digit-first k (n / 16))
+    hex-more (suc k) n
+    ∙ ap (λ (l : List ℕ). l ++ hexDigit (n % 16) ∷ []) (digit-first k (n / 16))
+    ∙ ap (λ (l : List ℕ). hexDigit (n / 16 / 16 ^ k % 16) ∷ l) (sym (hex-more k n))
     ∙ ap (λ (x : ℕ). hexDigit (x % 16) ∷ hexDigits (suc k) n) (div-div-eq-div-mul n 16 (16 ^ k) ∙ ap (λ (x : ℕ). n / x) (mul-comm 16 (16 ^ k) ∙ sym (pow-suc 16 k)))
 
 -- the digits of a line, with version and top digit as they stand
 unfoldable pub shown : Frame → List ℕ
 shown f =
     (48 ∷ 49 ∷ 48 ∷ [])
-    ++ (hexDigits 11 (f .serial) ++ (hexDigits 2 (length (f .label)) ++ (hexDigits 4 (f .message) ++ (hex (f .label) ++ (hex (f .sealed) ++ (10 ∷ []))))))
+    ++ (hexDigits 11 (f .serial) ++ (hexDigits 2 (length (f .label)) ++ (hexDigits 4 (f .messageLength) ++ (hex (f .label) ++ (hex (f .sealed) ++ (10 ∷ []))))))
 
 serial-first : (n : ℕ) → n < 2 ^ 44 → hexDigits 12 n ≡ 48 ∷ hexDigits 11 n
 unfolding hexDigit
@@ -87,7 +101,7 @@ serial-first n h = digit-first 11 n ∙ ap (λ (x : ℕ). hexDigit (x % 16) ∷ 
 pub line-shown : (f : Frame) → f .serial < 2 ^ 44 → lineOf f ≡ shown f
 unfolding lineOf shown hexDigits hexDigit
 line-shown f h =
-    ap (λ (l : List ℕ). 48 ∷ 49 ∷ (l ++ (hexDigits 2 (length (f .label)) ++ (hexDigits 4 (f .message) ++ (hex (f .label) ++ (hex (f .sealed) ++ (10 ∷ []))))))) (serial-first (f .serial) h)
+    ap (λ (l : List ℕ). 48 ∷ 49 ∷ (l ++ (hexDigits 2 (length (f .label)) ++ (hexDigits 4 (f .messageLength) ++ (hex (f .label) ++ (hex (f .sealed) ++ (10 ∷ []))))))) (serial-first (f .serial) h)
 
 -- ---- a good line is a written one
 
@@ -98,8 +112,8 @@ length-bytesAt s a (suc n) = ap suc (length-bytesAt s (a + 2) n)
 module _ (s : List ℕ) where
   peel : (a k : ℕ) → a + k ≤ length s → ((i : ℕ) → a ≤ i → i < a + k → hexValue (getD s i 48) < 16)
       → drop a s ≡ hexDigits k (numberAt s a k) ++ drop (a + k) s
-  unfolding hexDigits numberAt
-  peel a zero l h = rw add-zero
+  unfolding numberAt
+  peel a zero l h = rw (hex-none 0, add-zero)
   peel a (suc k) l h =
       let b : ℕ = getD s (a + k) 48 in
       let v : hexValue b < 16 = h (a + k) (omega arith) (omega arith) in
@@ -107,7 +121,7 @@ module _ (s : List ℕ) where
       peel a k (omega arith) (λ i x y. h i x (omega arith))
       ∙ ap (λ (z : List ℕ). hexDigits k (numberAt s a k) ++ z) (drop-cons s (a + k) 48 (omega arith))
       ∙ sym (append-snoc (hexDigits k (numberAt s a k)) b (drop (suc (a + k)) s))
-      ∙ rw (digits-div (numberAt s a k) {m = 16} v, digits-mod (numberAt s a k) {m = 16} v, digit-value b v, e)
+      ∙ rw (hex-more k, digits-div (numberAt s a k) {m = 16} v, digits-mod (numberAt s a k) {m = 16} v, digit-value b v, e)
 
   peel-hex : (a n : ℕ) → a + 2 * n ≤ length s → ((i : ℕ) → a ≤ i → i < a + 2 * n → hexValue (getD s i 48) < 16)
       → drop a s ≡ hex (bytesAt s a n) ++ drop (a + 2 * n) s
@@ -147,7 +161,7 @@ frameAt s =
     record {
       serial = serialOf s;
       label = bytesAt s 20 (labelLength s);
-      message = messageLength s;
+      messageLength = messageLength s;
       sealed = bytesAt s (20 + 2 * labelLength s) (sealedSize (messageLength s));
     }
 
@@ -231,10 +245,10 @@ digits-get r zero (one d p) h = d
 digits-get r (suc i) (one d p) h = digits-get r i p (le-of-suc-le-suc h)
 
 digits-digits : (k n : ℕ) → HexDigits (hexDigits k n)
-unfolding hexDigits
-digits-digits zero n = nothing
+digits-digits zero n = subst HexDigits (sym (hex-none n)) nothing
 digits-digits (suc k) n =
-    digits-append (digits-digits k (n / 16)) (one {b = hexDigit (n % 16)} (rw (value-digit (n % 16) (mod-lt n (lit< tt))) (mod-lt n (lit< tt))) nothing)
+    subst HexDigits (sym (hex-more k n))
+    (digits-append (digits-digits k (n / 16)) (one {b = hexDigit (n % 16)} (rw (value-digit (n % 16) (mod-lt n (lit< tt))) (mod-lt n (lit< tt))) nothing))
 
 digits-hex : (l : List ℕ) → HexDigits (hex l)
 unfolding hex
@@ -258,7 +272,7 @@ stands-of i b e l b0 b1 b2 d z h =
 
 module _ (f : Frame) where
   body : List ℕ
-  body = 48 ∷ 49 ∷ 48 ∷ (hexDigits 11 (f .serial) ++ (hexDigits 2 (length (f .label)) ++ (hexDigits 4 (f .message) ++ (hex (f .label) ++ hex (f .sealed)))))
+  body = 48 ∷ 49 ∷ 48 ∷ (hexDigits 11 (f .serial) ++ (hexDigits 2 (length (f .label)) ++ (hexDigits 4 (f .messageLength) ++ (hex (f .label) ++ hex (f .sealed)))))
 
   body-line : shown f ≡ body ++ (10 ∷ [])
   unfolding shown body
@@ -274,7 +288,7 @@ module _ (f : Frame) where
       one (lit< tt) (one (lit< tt) (one (lit< tt)
       (digits-append (digits-digits 11 (f .serial))
       (digits-append (digits-digits 2 (length (f .label)))
-      (digits-append (digits-digits 4 (f .message)) (digits-append (digits-hex (f .label)) (digits-hex (f .sealed))))))))
+      (digits-append (digits-digits 4 (f .messageLength)) (digits-append (digits-hex (f .label)) (digits-hex (f .sealed))))))))
 
   written-serial : f .serial < 2 ^ 44 → serialOf (shown f) ≡ f .serial
   unfolding shown
@@ -286,13 +300,13 @@ module _ (f : Frame) where
       rw (← append-assoc (48 ∷ 49 ∷ 48 ∷ []) (hexDigits 11 (f .serial)) _)
       (num-digits ((48 ∷ 49 ∷ 48 ∷ []) ++ hexDigits 11 (f .serial)) _ 14 2 (length (f .label)) (rw length-hex-digits) (omega arith))
 
-  written-message : f .message ≤ 1024 → messageLength (shown f) ≡ f .message
+  written-message : f .messageLength ≤ 1024 → messageLength (shown f) ≡ f .messageLength
   unfolding shown
   written-message h =
       let xs : List ℕ = (48 ∷ 49 ∷ 48 ∷ []) ++ (hexDigits 11 (f .serial) ++ hexDigits 2 (length (f .label))) in
       let ys : List ℕ = hex (f .label) ++ (hex (f .sealed) ++ (10 ∷ [])) in
-      let p : (48 ∷ 49 ∷ 48 ∷ []) ++ (hexDigits 11 (f .serial) ++ (hexDigits 2 (length (f .label)) ++ (hexDigits 4 (f .message) ++ ys))) ≡ xs ++ (hexDigits 4 (f .message) ++ ys) = simp append-assoc in
-      ap (λ (z : List ℕ). numberAt z 16 4) p ∙ num-digits xs ys 16 4 (f .message) (simp (length-append, length-hex-digits)) (omega arith)
+      let p : (48 ∷ 49 ∷ 48 ∷ []) ++ (hexDigits 11 (f .serial) ++ (hexDigits 2 (length (f .label)) ++ (hexDigits 4 (f .messageLength) ++ ys))) ≡ xs ++ (hexDigits 4 (f .messageLength) ++ ys) = simp append-assoc in
+      ap (λ (z : List ℕ). numberAt z 16 4) p ∙ num-digits xs ys 16 4 (f .messageLength) (simp (length-append, length-hex-digits)) (omega arith)
 
   body-at : (i : ℕ) → i ≤ length body → stands i (getD (body ++ (10 ∷ [])) i 48) (length body) ≡ true
   unfolding body
@@ -321,6 +335,6 @@ module _ (f : Frame) where
 pub good-whole : (s : List ℕ) → GoodLine s → Whole s
 good-whole s (f, l) = rw (l .line ∙ line-shown f (l .limits .serial)) (written-whole f (l .limits))
 
-pub line-fields : (s : List ℕ) (f : Frame) → LineOf s f → (serialOf s ≡ f .serial) × (labelLength s ≡ length (f .label)) × (messageLength s ≡ f .message)
+pub line-fields : (s : List ℕ) (f : Frame) → LineOf s f → (serialOf s ≡ f .serial) × (labelLength s ≡ length (f .label)) × (messageLength s ≡ f .messageLength)
 line-fields s f l =
     rw (l .line ∙ line-shown f (l .limits .serial)) (written-serial f (l .limits .serial), written-label f (l .limits .label), written-message f (l .limits .message))

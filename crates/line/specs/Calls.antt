@@ -17,7 +17,7 @@ use Rattle.line.specs.declared.Reading.the-variants.{Fields, NotLine}
 
 -- a frame with a message of n bytes
 abbrev pub frameOf : ℕ → List ℕ → ℕ → List ℕ → Frame
-frameOf serial a n c = record { serial = serial; label = a; message = n; sealed = c }
+frameOf serial a n c = record { serial = serial; label = a; messageLength = n; sealed = c }
 
 -- how many bytes the line of a frame with a label of l bytes and n sealed ones has: two digits a byte, twenty before them, and the 0A
 abbrev pub lineSize : ℕ → ℕ → ℕ
@@ -36,24 +36,24 @@ writing w0 k0 serial a m out = limited serial a (length m) out (lineGiven serial
 
 -- "Opening a line gives 7, or else passes on what opening gives.": over the computed reading. `passes-on` and `not-a-line` (`proofs/Demands.antt`) say it of good lines and of places.
 abbrev pub openingAs : ℕ → ℕ → List ℕ → Reading → List ℕ → Answer × List ℕ
-openingAs w0 k0 s (Fields serial l n label sealed) out = opening w0 k0 serial n (bytesAt s label l) (bytesAt s sealed (sealedSize n)) out
+openingAs w0 k0 s (Fields serial l n labelPlace sealedPlace) out = opening w0 k0 serial n (bytesAt s labelPlace l) (bytesAt s sealedPlace (sealedSize n)) out
 openingAs w0 k0 s (NotLine k) out = (Refused (Line k), out)
 
 unfoldable pub openingLine : ℕ → ℕ → List ℕ → List ℕ → Answer × List ℕ
 openingLine w0 k0 s out = openingAs w0 k0 s (reading s) out
 
 -- l bytes of label and k sealed bytes stand as digits at these places of s
-pub record FieldsRead (s : List ℕ) (l k label sealed : ℕ) : Type 0 where
+pub record FieldsRead (s : List ℕ) (l k labelPlace sealedPlace : ℕ) : Type 0 where
   pub label-size : l ≤ 32
   pub sealed-size : k ≤ 1032
-  pub label-place : label ≤ 2 ^ 16
-  pub sealed-place : sealed ≤ 2 ^ 16
-  pub label-bytes : (i : ℕ) → i < l → numberAt s (label + 2 * i) 2 < 256
-  pub sealed-bytes : (i : ℕ) → i < k → numberAt s (sealed + 2 * i) 2 < 256
+  pub label-place : labelPlace ≤ 2 ^ 16
+  pub sealed-place : sealedPlace ≤ 2 ^ 16
+  pub label-bytes : (i : ℕ) → i < l → numberAt s (labelPlace + 2 * i) 2 < 256
+  pub sealed-bytes : (i : ℕ) → i < k → numberAt s (sealedPlace + 2 * i) 2 < 256
 
 -- the refusal of a reading that has no fields
 abbrev pub refusedAs : Reading → Answer
-refusedAs (Fields serial l n label sealed) = Refused (Line 0)
+refusedAs (Fields serial l n labelPlace sealedPlace) = Refused (Line 0)
 refusedAs (NotLine k) = Refused (Line k)
 
 -- Demand 2 for a line: writing some message under the key (w0, k0) gives it

@@ -1,11 +1,11 @@
 -- Document 01, "The frame line": what a good line is, what begins one, the place in refusal 7, and what a reader answers.
-use Prim.Native.Nat.{ℕ, zero, suc, _+_, _*_, _/_, _%_, _^_, _≤_, _<_}
+use Prim.Native.Nat.{ℕ, _+_, _*_, _^_, _≤_, _<_}
 use mathlib.Core.Path.{_≡_}
-use mathlib.Core.List.{List, [], _∷_, _++_}
+use mathlib.Core.List.{List, [], _∷_, _++_, map}
 use mathlib.Core.Bool.{cond}
 use lib.ListN.{length, take}
 use lib.Dec.{ltb}
-use Rattle.words.specs.Digits.{Digits}
+use Rattle.words.specs.Digits.{digits, Digits}
 use Rattle.frame.specs.Frames.{sealedSize}
 use Rattle.line.specs.declared.Reading.{Reading}
 use Rattle.line.specs.declared.Reading.the-variants.{Fields, NotLine}
@@ -16,27 +16,26 @@ hexDigit d = cond (ltb d 10) (d + 48) (d + 87)
 
 -- the last k digits of a number, the most significant first
 unfoldable pub hexDigits : ℕ → ℕ → List ℕ
-hexDigits zero n = []
-hexDigits (suc k) n = hexDigits k (n / 16) ++ hexDigit (n % 16) ∷ []
+hexDigits k n = map hexDigit (digits 4 k n)
 
 -- two digits for each byte
 unfoldable pub hex : List ℕ → List ℕ
 hex [] = []
 hex (b ∷ bs) = hexDigits 2 b ++ hex bs
 
--- "one frame a line": the message is told by its length, for "no key enters into it"
+-- "one frame a line": of the message its length, for "no key enters into it"
 pub record Frame : Type 0 where
   pub serial : ℕ
   pub label : List ℕ
-  pub message : ℕ
+  pub messageLength : ℕ
   pub sealed : List ℕ
 
 -- "its lengths inside the limits and its sealed bytes as long as the message length calls for"; a serial below 2 ^ 44 is "6 bytes with the top digit 0"
 pub record Limits (f : Frame) : Type 0 where
   pub serial : f .serial < 2 ^ 44
   pub label : length (f .label) ≤ 32
-  pub message : f .message ≤ 1024
-  pub sealed : length (f .sealed) ≡ sealedSize (f .message)
+  pub message : f .messageLength ≤ 1024
+  pub sealed : length (f .sealed) ≡ sealedSize (f .messageLength)
   pub label-bytes : Digits 8 (f .label)
   pub sealed-bytes : Digits 8 (f .sealed)
 
@@ -45,7 +44,7 @@ unfoldable pub lineOf : Frame → List ℕ
 lineOf f =
     hexDigits 2 1
     ++ (hexDigits 12 (f .serial)
-    ++ (hexDigits 2 (length (f .label)) ++ (hexDigits 4 (f .message) ++ (hex (f .label) ++ (hex (f .sealed) ++ (10 ∷ []))))))
+    ++ (hexDigits 2 (length (f .label)) ++ (hexDigits 4 (f .messageLength) ++ (hex (f .label) ++ (hex (f .sealed) ++ (10 ∷ []))))))
 
 -- "A good line is one of just this shape": s is the line of f
 pub record LineOf (s : List ℕ) (f : Frame) : Type 0 where
@@ -66,7 +65,7 @@ pub data Place (s : List ℕ) (k : ℕ) : Type 0 where
 
 -- "the fields and their places": two digits a byte, label and sealed bytes stand behind the twenty digits of version, serial and lengths
 abbrev pub fieldsOf : Frame → Reading
-fieldsOf f = Fields (f .serial) (length (f .label)) (f .message) 20 (20 + 2 * length (f .label))
+fieldsOf f = Fields (f .serial) (length (f .label)) (f .messageLength) 20 (20 + 2 * length (f .label))
 
 -- "A reading answer either carries the fields and their places or the refusal and its place"
 pub data Reads (s : List ℕ) : Reading → Type 0 where

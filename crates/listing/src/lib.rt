@@ -11,6 +11,9 @@ ghost use Rattle.listing.specs.declared.Key.the-variants.{Unread, Known}
 ghost use Rattle.listing.specs.Listing.{isKey, decimal, refusalText, report, answerOf, one, total};
 ghost use Rattle.listing.specs.Pieces.{pushing, pushed, gathering, Added, keyOf, keyText, Ends, endedAs, ending, Feeds, finishing, closing, Kept};
 
+// How many bytes of a line are kept: one more than the longest good line has, so that they decide its reading.
+const LINE_KEPT: usize = 2150;
+
 // What is known of the key line.
 pub enum Key {
     Unread,
@@ -280,7 +283,7 @@ fn push(line: &mut [u8], held: usize, b: u8) -> usize
     requires { ⌜ (held ≤ 2150) × (2150 ≤ length (now line)) ⌝ }
     ensures { λ r. ⌜ (r ≡ pushed held) × (now (line .exit) ≡ pushing (now (line .entry)) held b) × (r ≤ 2150) ⌝ }
 {
-    if held < 2150 {
+    if held < LINE_KEPT {
         line[held] = b;
         return held + 1;
     }

@@ -3,18 +3,18 @@ use mathlib.Core.Bool.{Bool, true, false, false≢true}
 use mathlib.Core.Path.{_≡_, refl, sym, ap, ap₂, _∙_}
 use mathlib.Core.List.{List, [], _∷_, _++_, append-assoc, append-nil}
 use Prim.Native.Nat.{ℕ, zero, suc, _+_, _*_, _/_, _%_, _^_, _<_, _≤_, _-_}
-use native.Mathlib.Nat.{mul-zero, mul-suc, mul-one, mul-assoc, one-mul, add-comm, add-zero, zero-add, le-refl, le-trans, lt-of-lt-of-le, lt-of-le-of-lt, le-add-right, le-mul-of-pos-right, add-suc, div-one, mul-le-mul-right, mod-lt, mod-eq-of-lt}
+use native.Mathlib.Nat.{mul-zero, mul-suc, mul-one, mul-assoc, one-mul, add-comm, add-zero, zero-add, le-refl, le-trans, lt-of-lt-of-le, lt-of-le-of-lt, le-add-right, le-mul-of-pos-right, add-suc, div-one, mul-le-mul-right, mod-lt, mod-one, mod-eq-of-lt}
 use native.Mathlib.Numerals.{add-one, sub-one}
 use native.Mathlib.Omega.{arith}
 use mir.Syntax.{w8}
 use mir.Val.{Fits}
 use borrow.Author.Tests.{le-leb, lt-leb}
 use borrow.Rule.Slice.PartMut.{putMid}
-use lib.Arith.{lt-one, digits-lt}
+use lib.Arith.{digits-lt}
 use lib.Bits.{bitAnd, and-mask}
 use lib.Dec.{lit<, leb}
 use lib.ListN.{length, getD, take, drop, set, length-append, length-take}
-use lib.Pow.{pow-pos, pow-mono, pow-add, shl-exact, shr-lt, shr-shr, split, high, low}
+use lib.Pow.{pow-pos, pow-mono, pow-add, mod-pow-add, shl-exact, shr-shr, high, low}
 use lib.Seq.{drop-cons, lt-length-set, getD-set-same, drop-set-lt, take-at, drop-at, drop-drop}
 use Rattle.words.specs.Cases.{ifLe, ifYes}
 use Rattle.words.specs.Digits.{wordFrom, word, digits, Digits, none, more, laid}
@@ -25,9 +25,13 @@ pub word-append : (m a : ℕ) (xs ys : List ℕ) → wordFrom m a (xs ++ ys) ≡
 word-append m a [] ys = refl
 word-append m a (x ∷ xs) ys = word-append m (a * 2 ^ m + x) xs ys
 
+-- the digits of a number keep its low bits, and all of it where they suffice
+pub word-low : (m n w : ℕ) → word m (digits m n w) ≡ w % 2 ^ (m * n)
+word-low m zero w = sym (rw mul-zero (mod-one w))
+word-low m (suc n) w = rw (word-append, word-low m n (w / 2 ^ m)) (sym (ap (λ (k : ℕ). w % 2 ^ k) (mul-suc m n) ∙ mod-pow-add w (m * n) m))
+
 pub word-digits : (m n w : ℕ) → w < 2 ^ (m * n) → word m (digits m n w) ≡ w
-word-digits m zero w h = sym (lt-one (rw mul-zero at h))
-word-digits m (suc n) w h = rw (word-append, word-digits m n (w / 2 ^ m) (shr-lt (m * n) m (rw mul-suc at h))) (split w m)
+word-digits m n w h = word-low m n w ∙ mod-eq-of-lt h
 
 digits-from : {m : ℕ} {ds : List ℕ} (j a : ℕ) → Digits m ds → digits m (j + length ds) (wordFrom m a ds) ≡ digits m j a ++ ds
 digits-from j a none = rw (add-zero, append-nil)

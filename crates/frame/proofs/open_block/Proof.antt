@@ -6,7 +6,7 @@ use native.Mathlib.Omega.{arith}
 use lib.Dec.{lit<}
 use Rattle.words.proofs.Laws.{bytes, part-fits}
 use Rattle.frame.specs.Blocks.{tweak}
-use Rattle.frame.specs.Frames.{enciphered}
+use Rattle.frame.specs.Frames.{frameEngine}
 use Rattle.frame.proofs.open_block.Statement.{statement}
 use Rattle.frame.proofs.open_block.Tie as tie
 
@@ -28,4 +28,4 @@ open-block-spec =
     let at = args .i * 8 in
     let e : at + 8 - at ≡ 8 = omega arith in
     let t = c .before .before .before .tweak-of .ensures ∙ ap (λ (p : ℕ). tweak p (args .serial) (args .i)) (c .before .before .before .before .block-purpose .ensures .0) in
-    c .encipher .ensures ∙ ap₂ (enciphered (args .u)) t (rw e at (c .before .read .ensures))))
+    c .engine .ensures ∙ ap₂ (frameEngine (args .u)) t (rw e at (c .before .read .ensures))))

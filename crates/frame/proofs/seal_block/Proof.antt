@@ -3,7 +3,7 @@ use borrow.Author.Needs.{needs}
 use mathlib.Core.Path.{ap, ap₂, _∙_}
 use Prim.Native.Nat.{ℕ}
 use Rattle.frame.specs.Blocks.{tweak}
-use Rattle.frame.specs.Frames.{enciphered}
+use Rattle.frame.specs.Frames.{frameEngine}
 use Rattle.frame.proofs.seal_block.Statement.{statement}
 use Rattle.frame.proofs.seal_block.Tie as tie
 
@@ -18,4 +18,4 @@ seal-block-spec =
     (λ c.
     let args = c .before .before .before .before .before .args in
     let t = c .before .before .tweak-of .ensures ∙ ap (λ (p : ℕ). tweak p (args .serial) (args .i)) (c .before .before .before .block-purpose .ensures .0) in
-    c .encipher .ensures ∙ ap₂ (enciphered (args .s)) t (c .before .block-at .ensures)))
+    c .engine .ensures ∙ ap₂ (frameEngine (args .s)) t (c .before .block-at .ensures)))

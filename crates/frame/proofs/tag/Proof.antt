@@ -5,7 +5,7 @@ use Prim.Native.Nat.{ℕ}
 use native.Mathlib.Omega.{arith}
 use Rattle.words.specs.Digits.{_⊕_}
 use Rattle.frame.specs.Blocks.{blocks, tweak}
-use Rattle.frame.specs.Frames.{enciphered}
+use Rattle.frame.specs.Frames.{frameEngine}
 use Rattle.frame.proofs.tag.Statement.{statement}
 use Rattle.frame.proofs.tag.Tie as tie
 
@@ -21,4 +21,4 @@ tag-spec =
     (λ c.
     let args = c .before .before .before .before .before .args in
     let t = c .before .before .tweak-of .ensures ∙ ap (λ (p : ℕ). tweak p (args .serial) (blocks (args .n))) (c .before .before .before .tag-purpose .ensures .0) in
-    ap₂ _⊕_ (c .before .encipher .ensures ∙ ap (λ (u : ℕ). enciphered (args .s) u (args .message-sum)) t) (c .sum-label .ensures)))
+    ap₂ _⊕_ (c .before .engine .ensures ∙ ap (λ (u : ℕ). frameEngine (args .s) u (args .message-sum)) t) (c .sum-label .ensures)))

@@ -1,4 +1,4 @@
--- `encipher` meets its contract: the engine on the cells of tweak and block.
+-- `engine` meets its contract: the engine on the cells of tweak and block.
 use borrow.Author.Needs.{needs}
 use mathlib.Core.Path.{ap, ap₂, _∙_}
 use native.Mathlib.Omega.{arith}
@@ -8,11 +8,11 @@ use Rattle.cells.proofs.Lawful.{lawful64}
 use Rattle.cells.proofs.Words.{cut-below}
 use Rattle.cipher.specs.Engine.{engine}
 use Rattle.cipher.proofs.Turning.{engine-below}
-use Rattle.frame.proofs.encipher.Statement.{statement}
-use Rattle.frame.proofs.encipher.Tie as tie
+use Rattle.frame.proofs.engine.Statement.{statement}
+use Rattle.frame.proofs.engine.Tie as tie
 
-pub encipher-spec : {M : Type 1} → statement M
-encipher-spec =
+pub engine-spec : {M : Type 1} → statement M
+engine-spec =
     tie.close
     (tie.spec
     (λ c κs. search needs)
