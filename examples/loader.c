@@ -33,7 +33,8 @@ static uint8_t line[KK_LINE_MAX + 1];
 /* Opens the line into the profile. Gives what kk_open_line() returned.
 
    A line opens as often as it is handed in. A pad that must not go back to an older
-   profile also compares the line's serial, which kk_read_line() gives. */
+   profile takes the line's serial from kk_read_line() and compares it before it opens
+   the line, and keeps the new serial once the line has opened. */
 static uint64_t load(uint64_t w0, uint64_t k0, size_t line_length)
 {
     const uint64_t answer = kk_open_line(w0, k0, line, line_length, profile, sizeof profile);
@@ -55,7 +56,7 @@ static void print_refusal(uint64_t answer, size_t line_length)
     case KK_REFUSED_ROOM:
         printf(": the profile is longer than %d bytes\n", PROFILE_MAX);
         break;
-    case KK_REFUSED_TAG:
+    case KK_REFUSED_DISAGREES:
         printf(": changed, or sealed under another key\n");
         break;
     default: /* kk_open_line() gives no other */

@@ -13,7 +13,8 @@
  *   block     The 64 bits that are enciphered or deciphered in one call.
  *   tweak     64 bits beside the key. Each tweak gives another cipher. It need
  *             not be secret.
- *   key       Two words: the outer word w0 and the core word k0.
+ *   key       Two words: the outer word w0 and the core word k0. Where a key is
+ *             written in 16 bytes or 32 digits, w0 comes first.
  *   schedule  The four words that the engine runs on: the outer words w0 and
  *             w1, the core word k0 and the centre word k1.
  *   turn      To turn a schedule is to make the one under which the engine
@@ -34,7 +35,7 @@
  *   bytes     their number.
  *   open      To open sealed bytes is to decipher them and to give the message if
  *             tag and fill agree.
- *   frame     A serial, a label and sealed bytes.
+ *   frame     A serial, a label, a message length and sealed bytes.
  *   line      A frame as text: lowercase hexadecimal digits, ended by byte 0x0A.
  *   place     The number of a byte in a line, from 0.
  *   refusal   The number that says why a call did nothing.
@@ -197,14 +198,14 @@ extern "C" {
 /* What kk_refusal() gives. */
 enum kk_refusals {
     KK_NOT_REFUSED = 0,
-    KK_REFUSED_SETTINGS = 1, /* box or rounds outside the limits */
-    KK_REFUSED_LENGTH = 2,   /* message or label longer than allowed */
-    KK_REFUSED_SERIAL = 3,   /* serial above 2^44 - 1 */
-    KK_REFUSED_SEALED = 4,   /* sealed bytes are not 8 more than the message
-                                length rounded up to 8 */
-    KK_REFUSED_ROOM = 5,     /* lent memory shorter than the answer needs */
-    KK_REFUSED_TAG = 6,      /* tag or fill disagrees */
-    KK_REFUSED_LINE = 7      /* not a good line; kk_count() gives the place */
+    KK_REFUSED_SETTINGS = 1,    /* box or rounds outside the limits */
+    KK_REFUSED_LENGTH = 2,      /* message or label longer than allowed */
+    KK_REFUSED_SERIAL = 3,      /* serial above 2^44 - 1 */
+    KK_REFUSED_SEALED_SIZE = 4, /* sealed bytes are not 8 more than the message
+                                   length rounded up to 8 */
+    KK_REFUSED_ROOM = 5,        /* lent memory shorter than the answer needs */
+    KK_REFUSED_DISAGREES = 6,   /* tag or fill disagrees */
+    KK_REFUSED_LINE = 7         /* not a good line; kk_count() gives the place */
 };
 
 /* The refusal in a returned number: one of enum kk_refusals. */
@@ -324,15 +325,16 @@ uint64_t kk_seal(uint64_t w0, uint64_t k0, uint64_t serial,
  * Under one key, serial and label, sealed bytes open at one length at most that is
  * not a multiple of 8: the fill shows where the message ends. That they do not
  * open at a multiple of 8 as well rests on the tag, as with any changed frame: such
- * bytes exist, and are as rare as a tag that is right by chance.
+ * bytes exist, and whoever has the key can search for them (docs/DECISIONS.md,
+ * "Frames").
  *
  * Refusals, in this order:
- *   KK_REFUSED_LENGTH if message_length is above KK_MESSAGE_MAX, or label_length
- *                     above KK_LABEL_MAX;
- *   KK_REFUSED_SERIAL if serial is above KK_SERIAL_MAX;
- *   KK_REFUSED_SEALED if sealed_length is not KK_SEALED_BYTES(message_length);
- *   KK_REFUSED_ROOM   if out_length is below message_length;
- *   KK_REFUSED_TAG    if tag or fill disagrees.
+ *   KK_REFUSED_LENGTH      if message_length is above KK_MESSAGE_MAX, or
+ *                          label_length above KK_LABEL_MAX;
+ *   KK_REFUSED_SERIAL      if serial is above KK_SERIAL_MAX;
+ *   KK_REFUSED_SEALED_SIZE if sealed_length is not KK_SEALED_BYTES(message_length);
+ *   KK_REFUSED_ROOM        if out_length is below message_length;
+ *   KK_REFUSED_DISAGREES   if tag or fill disagrees.
  * Writes the message to the first message_length bytes of out, at most 1024 and
  * perhaps none, and writes no byte before it has accepted.
  */
@@ -384,13 +386,14 @@ uint64_t kk_write_line(uint64_t w0, uint64_t k0, uint64_t serial,
  *
  * With enough room, it accepts exactly the lines that kk_write_line() gives for
  * some serial, label and message under that key, and it writes that message.
+ * line_length counts the 0x0A. No byte 0x00 follows the message.
  *
  * Refusals, in this order:
- *   KK_REFUSED_LINE if the bytes are not a good line, with the place;
- *   KK_REFUSED_ROOM if out_length is below the line's message length;
- *   KK_REFUSED_TAG  if tag or fill disagrees.
- * KK_REFUSED_LENGTH, KK_REFUSED_SERIAL and KK_REFUSED_SEALED, which kk_open() can
- * give, do not occur, since a good line is within the limits.
+ *   KK_REFUSED_LINE      if the bytes are not a good line, with the place;
+ *   KK_REFUSED_ROOM      if out_length is below the line's message length;
+ *   KK_REFUSED_DISAGREES if tag or fill disagrees.
+ * KK_REFUSED_LENGTH, KK_REFUSED_SERIAL and KK_REFUSED_SEALED_SIZE, which kk_open()
+ * can give, do not occur, since a good line is within the limits.
  * Writes the message to the first bytes of out, as many as its length, at most
  * 1024 and perhaps none, and writes no byte before it has accepted.
  */

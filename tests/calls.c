@@ -223,11 +223,11 @@ static void opens(void)
     wrote_text(opened(o), "", "kk_open, null label and out");
     o.sealed = NULL;
     o.sealed_length = 0;
-    refused(opened(o), KK_REFUSED_SEALED, "kk_open, all null");
+    refused(opened(o), KK_REFUSED_SEALED_SIZE, "kk_open, all null");
     o = known;
     o.sealed = NULL;
     o.sealed_length = 0;
-    refused(opened(o), KK_REFUSED_SEALED, "kk_open, null sealed bytes");
+    refused(opened(o), KK_REFUSED_SEALED_SIZE, "kk_open, null sealed bytes");
     o = known;
     o.out = NULL;
     o.out_length = 0;
@@ -265,15 +265,15 @@ static void opens_not(void)
 
     o = known;
     o.sealed_length--;
-    refused(opened(o), KK_REFUSED_SEALED, "kk_open, a sealed byte less");
+    refused(opened(o), KK_REFUSED_SEALED_SIZE, "kk_open, a sealed byte less");
     o.sealed = bytes;
     o.sealed_length = sizeof bytes;
-    refused(opened(o), KK_REFUSED_SEALED, "kk_open, a sealed byte more");
+    refused(opened(o), KK_REFUSED_SEALED_SIZE, "kk_open, a sealed byte more");
     o = known;
     o.message_length = 8;
-    refused(opened(o), KK_REFUSED_SEALED, "kk_open, length of a block less");
+    refused(opened(o), KK_REFUSED_SEALED_SIZE, "kk_open, length of a block less");
     o.message_length = 17;
-    refused(opened(o), KK_REFUSED_SEALED, "kk_open, length of a block more");
+    refused(opened(o), KK_REFUSED_SEALED_SIZE, "kk_open, length of a block more");
 
     o = known;
     o.out_length = strlen(MESSAGE) - 1;
@@ -281,24 +281,24 @@ static void opens_not(void)
 
     o = known;
     o.message_length--;
-    refused(opened(o), KK_REFUSED_TAG, "kk_open, length of a byte less");
+    refused(opened(o), KK_REFUSED_DISAGREES, "kk_open, length of a byte less");
     o.message_length += 2;
-    refused(opened(o), KK_REFUSED_TAG, "kk_open, length of a byte more");
+    refused(opened(o), KK_REFUSED_DISAGREES, "kk_open, length of a byte more");
     o.message_length = 16;
-    refused(opened(o), KK_REFUSED_TAG, "kk_open, length of whole blocks");
+    refused(opened(o), KK_REFUSED_DISAGREES, "kk_open, length of whole blocks");
     o = known;
     o.serial++;
-    refused(opened(o), KK_REFUSED_TAG, "kk_open, another serial");
+    refused(opened(o), KK_REFUSED_DISAGREES, "kk_open, another serial");
     o = known;
     o.label_length--;
-    refused(opened(o), KK_REFUSED_TAG, "kk_open, another label");
+    refused(opened(o), KK_REFUSED_DISAGREES, "kk_open, another label");
     o = known;
     o.sealed = bytes;
     bytes[0] ^= 1;
-    refused(opened(o), KK_REFUSED_TAG, "kk_open, changed block");
+    refused(opened(o), KK_REFUSED_DISAGREES, "kk_open, changed block");
     bytes[0] ^= 1;
     bytes[sizeof sealed - 1] ^= 1;
-    refused(opened(o), KK_REFUSED_TAG, "kk_open, changed tag");
+    refused(opened(o), KK_REFUSED_DISAGREES, "kk_open, changed tag");
     bytes[sizeof sealed - 1] ^= 1;
     wrote_text(opened(o), MESSAGE, "kk_open, changed back");
 }
@@ -331,11 +331,11 @@ static void opens_at_last(void)
     o.label_length = strlen(LABEL);
     refused(opened(o), KK_REFUSED_SERIAL, "kk_open, serial to tag bad");
     o.serial = SERIAL;
-    refused(opened(o), KK_REFUSED_SEALED, "kk_open, sealed length to tag bad");
+    refused(opened(o), KK_REFUSED_SEALED_SIZE, "kk_open, sealed length to tag bad");
     o.sealed_length = sizeof bytes;
     refused(opened(o), KK_REFUSED_ROOM, "kk_open, room and tag bad");
     o.out_length = strlen(MESSAGE);
-    refused(opened(o), KK_REFUSED_TAG, "kk_open, tag bad");
+    refused(opened(o), KK_REFUSED_DISAGREES, "kk_open, tag bad");
     bytes[0] ^= 1;
     wrote_text(opened(o), MESSAGE, "kk_open, all put right");
 }
@@ -560,24 +560,24 @@ static void opens_lines(void)
 
     refused(line_opened(line, strlen(MESSAGE) - 1), KK_REFUSED_ROOM, "kk_open_line, short");
 
-    refused(line_opened(changed(line, line.length - 2, '2'), sizeof out), KK_REFUSED_TAG,
-            "kk_open_line, changed tag");
-    refused(line_opened(changed(line, 32, '6'), sizeof out), KK_REFUSED_TAG,
-            "kk_open_line, changed block");
-    refused(line_opened(changed(line, 20, '7'), sizeof out), KK_REFUSED_TAG,
-            "kk_open_line, changed label");
-    refused(line_opened(known_with("01" "000000000002" "06" "000b"), sizeof out), KK_REFUSED_TAG,
-            "kk_open_line, another serial");
-    refused(line_opened(known_with("01" "000000000001" "06" "000a"), sizeof out), KK_REFUSED_TAG,
-            "kk_open_line, length of a byte less");
-    refused(line_opened(known_with("01" "000000000001" "06" "000c"), sizeof out), KK_REFUSED_TAG,
-            "kk_open_line, length of a byte more");
-    refused(line_opened(known_with("01" "000000000001" "06" "0010"), sizeof out), KK_REFUSED_TAG,
-            "kk_open_line, length of whole blocks");
-    refused(kk_open_line(W0 ^ 1, K0, line.bytes, line.length, lend(), sizeof out), KK_REFUSED_TAG,
-            "kk_open_line, another outer word");
-    refused(kk_open_line(W0, K0 ^ 1, line.bytes, line.length, lend(), sizeof out), KK_REFUSED_TAG,
-            "kk_open_line, another core word");
+    refused(line_opened(changed(line, line.length - 2, '2'), sizeof out),
+            KK_REFUSED_DISAGREES, "kk_open_line, changed tag");
+    refused(line_opened(changed(line, 32, '6'), sizeof out),
+            KK_REFUSED_DISAGREES, "kk_open_line, changed block");
+    refused(line_opened(changed(line, 20, '7'), sizeof out),
+            KK_REFUSED_DISAGREES, "kk_open_line, changed label");
+    refused(line_opened(known_with("01" "000000000002" "06" "000b"), sizeof out),
+            KK_REFUSED_DISAGREES, "kk_open_line, another serial");
+    refused(line_opened(known_with("01" "000000000001" "06" "000a"), sizeof out),
+            KK_REFUSED_DISAGREES, "kk_open_line, length of a byte less");
+    refused(line_opened(known_with("01" "000000000001" "06" "000c"), sizeof out),
+            KK_REFUSED_DISAGREES, "kk_open_line, length of a byte more");
+    refused(line_opened(known_with("01" "000000000001" "06" "0010"), sizeof out),
+            KK_REFUSED_DISAGREES, "kk_open_line, length of whole blocks");
+    refused(kk_open_line(W0 ^ 1, K0, line.bytes, line.length, lend(), sizeof out),
+            KK_REFUSED_DISAGREES, "kk_open_line, another outer word");
+    refused(kk_open_line(W0, K0 ^ 1, line.bytes, line.length, lend(), sizeof out),
+            KK_REFUSED_DISAGREES, "kk_open_line, another core word");
 
     /* No bytes at all, by null pointers. */
     lend();
@@ -606,7 +606,7 @@ static void opens_lines_at_last(void)
     refused_at(line_opened(longer(bad, '\n'), message - 1), KK_REFUSED_LINE, line.length,
                "kk_open_line, all bad");
     refused(line_opened(bad, message - 1), KK_REFUSED_ROOM, "kk_open_line, room and tag bad");
-    refused(line_opened(bad, message), KK_REFUSED_TAG, "kk_open_line, tag bad");
+    refused(line_opened(bad, message), KK_REFUSED_DISAGREES, "kk_open_line, tag bad");
     wrote_text(line_opened(line, message), MESSAGE, "kk_open_line, all put right");
 }
 
@@ -688,7 +688,7 @@ static void no_line_damaged(void)
     for (place = 0; place < line.length; place++) {
         for (bit = 1; bit < 256; bit *= 2) {
             answer = line_opened(changed(line, place, line.bytes[place] ^ bit), sizeof out);
-            check(kk_refusal(answer) == KK_REFUSED_LINE || answer == (uint64_t)KK_REFUSED_TAG << 56,
+            check(kk_refusal(answer) == KK_REFUSED_LINE || answer == (uint64_t)KK_REFUSED_DISAGREES << 56,
                   "a damaged line");
             check(untouched_from(0), "a damaged line, nothing changed");
         }

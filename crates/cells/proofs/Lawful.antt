@@ -5,10 +5,10 @@ use native.Mathlib.Omega.{arith}
 use borrow.Author.Needs.{needs}
 use lib.Dec.{T, eqb, eqb→eq, ltb, ltb→lt}
 use lib.ListN.{getD}
-use Rattle.cells.proofs.Tests.{every, undoes, Within}
-use Rattle.cells.specs.Cells.{Cipher, Below, looked, picked, shuffleFrom, unshuffleFrom, shuffled, unshuffled, mixed, stepFrom, unstepFrom, stepped, unstepped, onSeven}
+use Rattle.cells.proofs.Tests.{every, undoes, AllBelow}
+use Rattle.cells.specs.Cells.{Cipher, Below, looked, picked, shuffleFrom, unshuffleFrom, shuffled, unshuffled, mixed, stepFrom, unstepFrom, bitStepped, bitUnstepped, stepped, unstepped, onSeven}
 use Rattle.cells.specs.declared.Cells.{Cells}
-use Rattle.cells.specs.Qarma64.{qarma64, constants, alphaWord, bitStepped, bitUnstepped}
+use Rattle.cells.specs.Qarma64.{qarma64, constants, alphaWord}
 use Rattle.cells.proofs.Upto.{each}
 use Rattle.cells.proofs.Laws.{picked-below, unpick, looked-below, relook, seven-below, seven-back}
 use Rattle.cells.proofs.Mix.{selfInverse, mixed-below, mixed-twice}
@@ -21,12 +21,12 @@ pub record Undoes (m : ℕ) (g f : ℕ → ℕ) : Type 0 where
 
 pub record Lawful (c : Cipher) : Type 0 where
   pub mix : T (selfInverse (c .bits) (c .rows))
-  pub box-within : (b : ℕ) → b < 3 → Within (2 ^ c .bits) (2 ^ c .bits) (c .box b)
-  pub unbox-within : (b : ℕ) → b < 3 → Within (2 ^ c .bits) (2 ^ c .bits) (c .unbox b)
+  pub box-within : (b : ℕ) → b < 3 → AllBelow (2 ^ c .bits) (2 ^ c .bits) (c .box b)
+  pub unbox-within : (b : ℕ) → b < 3 → AllBelow (2 ^ c .bits) (2 ^ c .bits) (c .unbox b)
   pub unbox-box : (b : ℕ) → b < 3 → T (undoes (2 ^ c .bits) (c .unbox b) (c .box b))
   pub box-unbox : (b : ℕ) → b < 3 → T (undoes (2 ^ c .bits) (c .box b) (c .unbox b))
-  pub step : Undoes (c .bits) (c .bitBack) (c .bitStep)
-  pub unstep : Undoes (c .bits) (c .bitStep) (c .bitBack)
+  pub step : Undoes (c .bits) (bitUnstepped (c .bits) (c .tap)) (bitStepped (c .bits) (c .tap))
+  pub unstep : Undoes (c .bits) (bitStepped (c .bits) (c .tap)) (bitUnstepped (c .bits) (c .tap))
   pub constant : (i : ℕ) → Below (c .bits) (c .constant i)
   pub alpha : Below (c .bits) (c .alpha)
 
@@ -63,20 +63,20 @@ module _ {c : Cipher} (k : Lawful c) {a : Cells} (b : Below (c .bits) a) where
   box-unboxed n h = relook (c .box n) (c .unbox n) (k .box-unbox n h) b
 
   pub stepped-below : Below (c .bits) (stepped c a)
-  stepped-below = seven-below (c .bitStep) (picked-below (search needs) b) (k .step .keeps)
+  stepped-below = seven-below (bitStepped (c .bits) (c .tap)) (picked-below (search needs) b) (k .step .keeps)
 
   pub unstepped-below : Below (c .bits) (unstepped c a)
-  unstepped-below = picked-below (search needs) (seven-below (c .bitBack) b (k .unstep .keeps))
+  unstepped-below = picked-below (search needs) (seven-below (bitUnstepped (c .bits) (c .tap)) b (k .unstep .keeps))
 
   pub unstep-stepped : unstepped c (stepped c a) ≡ a
   unstep-stepped =
-      ap (picked unstepFrom) (seven-back (c .bitStep) (picked-below (search needs) b) (c .bitBack) (k .step .back))
+      ap (picked unstepFrom) (seven-back (bitStepped (c .bits) (c .tap)) (picked-below (search needs) b) (bitUnstepped (c .bits) (c .tap)) (k .step .back))
       ∙ unpick stepFrom unstepFrom (b .size) tt (search needs)
 
   pub step-unstepped : stepped c (unstepped c a) ≡ a
   step-unstepped =
-      ap (onSeven (c .bitStep)) (unpick unstepFrom stepFrom (seven-below (c .bitBack) b (k .unstep .keeps) .size) tt (search needs))
-      ∙ seven-back (c .bitBack) b (c .bitStep) (k .unstep .back)
+      ap (onSeven (bitStepped (c .bits) (c .tap))) (unpick unstepFrom stepFrom (seven-below (bitUnstepped (c .bits) (c .tap)) b (k .unstep .keeps) .size) tt (search needs))
+      ∙ seven-back (bitUnstepped (c .bits) (c .tap)) b (bitStepped (c .bits) (c .tap)) (k .unstep .back)
 
 -- ---- QARMA-64 is such a cipher
 
@@ -98,12 +98,12 @@ pub lawful64 : Lawful qarma64
 lawful64 =
     record {
       mix = tt;
-      box-within = three (λ (b : ℕ). Within 16 16 (qarma64 .box b)) (search needs) (search needs) (search needs);
-      unbox-within = three (λ (b : ℕ). Within 16 16 (qarma64 .unbox b)) (search needs) (search needs) (search needs);
+      box-within = three (λ (b : ℕ). AllBelow 16 16 (qarma64 .box b)) (search needs) (search needs) (search needs);
+      unbox-within = three (λ (b : ℕ). AllBelow 16 16 (qarma64 .unbox b)) (search needs) (search needs) (search needs);
       unbox-box = three (λ (b : ℕ). T (undoes 16 (qarma64 .unbox b) (qarma64 .box b))) tt tt tt;
       box-unbox = three (λ (b : ℕ). T (undoes 16 (qarma64 .box b) (qarma64 .unbox b))) tt tt tt;
-      step = undoes-of 4 bitUnstepped bitStepped tt tt;
-      unstep = undoes-of 4 bitStepped bitUnstepped tt tt;
+      step = undoes-of 4 (bitUnstepped 4 1) (bitStepped 4 1) tt tt;
+      unstep = undoes-of 4 (bitStepped 4 1) (bitUnstepped 4 1) tt tt;
       constant = λ i. cut-below 4 (getD constants i 0);
       alpha = cut-below 4 alphaWord;
     }

@@ -1,3 +1,3 @@
-pub mod Lists
 pub mod Cells
 pub mod Qarma64
+pub mod Workings

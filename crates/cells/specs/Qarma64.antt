@@ -1,9 +1,8 @@
--- Document 01, "The engine": the boxes, entries, bit step and constants of QARMA-64. Document 000 has them in 3.3, 3.1.2, 2.4 and Table 1.
+-- Document 01, "The engine" and "Sizes": the boxes, entries, bit step, rounds and constants of QARMA-64. Document 000 has them in 3.3, 3.1.2, 2.4 and Table 1.
 use mathlib.Core.List.{List, [], _∷_}
-use Prim.Native.Nat.{ℕ, zero, suc, _+_, _*_, _/_, _%_}
+use Prim.Native.Nat.{ℕ}
 use lib.ListN.{getD}
-use Rattle.words.specs.Digits.{_⊕_}
-use Rattle.cells.specs.Lists.{_!_, upto}
+use Rattle.words.specs.Lists.{_!_}
 use Rattle.cells.specs.Cells.{Cipher, cut}
 
 -- "Boxes, for inputs 0 to 15"
@@ -25,23 +24,6 @@ unboxes =
 -- "Rows of entries: - 1 2 1; 1 - 1 2; 2 1 - 1; 1 2 1 -"
 abbrev pub entries : List (List ℕ)
 entries = (0 ∷ 1 ∷ 2 ∷ 1 ∷ []) ∷ (1 ∷ 0 ∷ 1 ∷ 2 ∷ []) ∷ (2 ∷ 1 ∷ 0 ∷ 1 ∷ []) ∷ (1 ∷ 2 ∷ 1 ∷ 0 ∷ []) ∷ []
-
--- "from bits (b3 b2 b1 b0) to (b0+b1, b3, b2, b1)", and back
-abbrev pub bitStepped : ℕ → ℕ
-bitStepped v = (v ⊕ v / 2) % 2 * 8 + v / 2
-
-abbrev pub bitUnstepped : ℕ → ℕ
-bitUnstepped v = v % 8 * 2 + (v / 8 ⊕ v) % 2
-
--- a cell kept (0), its bits stepped (1) or stepped back
-abbrev pub bitMoved : ℕ → ℕ → ℕ
-bitMoved zero v = v
-bitMoved (suc zero) v = bitStepped v
-bitMoved (suc (suc n)) v = bitUnstepped v
-
--- each cell of a row by its own number of these
-abbrev pub movedRow : List ℕ → List ℕ → List ℕ
-movedRow how row = upto 4 (λ y. bitMoved (how ! y) (row ! y))
 
 -- "Constants in hexadecimal, c0 to c7", and "Alpha"
 abbrev pub constants : List ℕ
@@ -66,8 +48,8 @@ qarma64 =
       box = λ b. getD boxes b [];
       unbox = λ b. getD unboxes b [];
       rows = entries;
-      bitStep = bitStepped;
-      bitBack = bitUnstepped;
+      tap = 1;
+      rounds = 8;
       constant = λ i. cut 4 (constants ! i);
       alpha = cut 4 alphaWord;
     }

@@ -2,9 +2,10 @@
 ghost use mathlib.Core.Path.{_≡_};
 ghost use mathlib.Core.List.{[], _∷_};
 ghost use Prim.Native.Nat.{_<_};
-ghost use Rattle.cells.specs.Lists.{_!_, nibbles};
-ghost use Rattle.cells.specs.Cells.{Below, cell, ofRows, transposed, cut, joined, added, looked, shuffled, unshuffled, rotated, rowSum, mixedColumn, mixed, stepped, unstepped};
-ghost use Rattle.cells.specs.Qarma64.{qarma64, entries, bitStepped, bitUnstepped, bitMoved, movedRow};
+ghost use Rattle.words.specs.Lists.{_!_};
+ghost use Rattle.cells.specs.Cells.{Below, cell, cut, joined, added, looked, shuffled, unshuffled, rotated, rowSum, mixedColumn, mixed, bitStepped, bitUnstepped, stepped, unstepped};
+ghost use Rattle.cells.specs.Qarma64.{qarma64, entries};
+ghost use Rattle.cells.specs.Workings.{nibbles, ofRows, transposed, bitMoved, movedRow};
 
 // The mix: row x of the entries (x, j), by which cell j is rotated left; 0 stands for "-", which adds nothing.
 const ENTRIES: [[u8; 4]; 4] = [[0, 1, 2, 1], [1, 0, 1, 2], [2, 1, 0, 1], [1, 2, 1, 0]];
@@ -67,6 +68,7 @@ fn unbox_word(number: u64) -> u64
     }
 }
 
+// A cell as a number of 64 bits, to shift by.
 fn wide(x: u8) -> u64
     ensures { λ r. ⌜ r ≡ x ⌝ }
 {
@@ -83,14 +85,14 @@ fn look_up(table: u64, x: u8) -> u8
 
 // The bits (b3 b2 b1 b0) of a cell become (b0+b1, b3, b2, b1).
 fn bit_step(x: u8) -> u8
-    ensures { λ r. ⌜ r ≡ bitStepped x ⌝ }
+    ensures { λ r. ⌜ r ≡ bitStepped 4 1 x ⌝ }
 {
     (x ^ x / 2) % 2 * 8 + x / 2
 }
 
 // The bit step undone.
-fn bit_back(x: u8) -> u8
-    ensures { λ r. ⌜ r ≡ bitUnstepped x ⌝ }
+fn bit_unstep(x: u8) -> u8
+    ensures { λ r. ⌜ r ≡ bitUnstepped 4 1 x ⌝ }
 {
     x % 8 * 2 + (x / 8 ^ x) % 2
 }
@@ -102,7 +104,7 @@ fn move_bits(how: u8, x: u8) -> u8
     match how {
         0 => x,
         1 => bit_step(x),
-        _ => bit_back(x),
+        _ => bit_unstep(x),
     }
 }
 
@@ -163,6 +165,7 @@ impl Cells {
         Cells { at: out }
     }
 
+    // Each cell looked up in a box.
     fn look(self, table: u64) -> Cells
         requires { ⌜ Below 4 self ⌝ }
         ensures { λ r. ⌜ r ≡ looked (nibbles table) self ⌝ }

@@ -3,7 +3,7 @@ ghost use Prim.Native.Nat.{_+_, _^_, _<_, _≤_};
 ghost use mathlib.Core.Path.{_≡_};
 ghost use mathlib.Core.Bool.{true, false};
 ghost use lib.ListN.{length};
-ghost use Rattle.listing.specs.Pieces.{Kept};
+ghost use Rattle.listing.specs.Chunks.{Kept};
 use libc::STDERR_FILENO;
 use libc::STDIN_FILENO;
 use libc::STDOUT_FILENO;
@@ -13,7 +13,7 @@ use listing::Lister;
 // No text that the listing hands out at once is longer.
 const TEXT_MAX: usize = 128;
 
-// What is kept of the listing, how many bytes of the output wait to be written, how many of the piece were taken, and whether to go on.
+// What is kept of the listing, how many bytes of the output wait to be written, how many of the chunk were taken, and whether to go on.
 struct Progress {
     state: Lister,
     used: usize,
@@ -73,24 +73,24 @@ fn stop(t: Lister) -> Progress
     }
 }
 
-// Feeds the listing with the bytes of a piece from one place up to the next 0A. What there is to print goes behind what waits.
+// Feeds the listing with the bytes of a chunk from one place up to the next 0A. What there is to print goes behind what waits.
 fn feed_line(
     t: Lister,
     line: &mut [u8],
-    piece: &[u8],
+    chunk: &[u8],
     from: usize,
     out: &mut [u8],
     used: usize,
 ) -> Progress
-    requires { ⌜ (Kept t × (t .lines + 1 < 2 ^ 63)) × ((2150 ≤ length (now line)) × (from < length (now piece))) × ((used ≤ length (now out)) × (128 ≤ length (now out))) ⌝ }
-    ensures { λ r. ⌜ (Kept (r .state) × (r .state .lines ≤ t .lines + 1)) × (r .used ≤ length (now (out .entry))) × (from + r .taken ≤ length (now (piece .entry))) × (r .going ≡ true → 1 ≤ r .taken) ⌝ }
+    requires { ⌜ (Kept t × (t .lines + 1 < 2 ^ 63)) × ((2150 ≤ length (now line)) × (from < length (now chunk))) × ((used ≤ length (now out)) × (128 ≤ length (now out))) ⌝ }
+    ensures { λ r. ⌜ (Kept (r .state) × (r .state .lines ≤ t .lines + 1)) × (r .used ≤ length (now (out .entry))) × (from + r .taken ≤ length (now (chunk .entry))) × (r .going ≡ true → 1 ≤ r .taken) ⌝ }
 {
     let waiting = room(out, used);
     let at = waiting.at;
     if !waiting.going {
         return stop(t);
     }
-    let fed = listing::feed(t, line, &piece[from..], &mut out[at..]);
+    let fed = listing::feed(t, line, &chunk[from..], &mut out[at..]);
     let state = fed.state;
     Progress {
         state,
@@ -100,16 +100,16 @@ fn feed_line(
     }
 }
 
-// Feeds the listing with a whole piece.
-fn feed_all(t: Lister, line: &mut [u8], piece: &[u8], out: &mut [u8], used: usize) -> Progress
-    requires { ⌜ (Kept t × (t .lines + 65536 < 2 ^ 63)) × ((2150 ≤ length (now line)) × (length (now piece) ≤ 65536)) × ((used ≤ length (now out)) × (128 ≤ length (now out))) ⌝ }
+// Feeds the listing with a whole chunk.
+fn feed_all(t: Lister, line: &mut [u8], chunk: &[u8], out: &mut [u8], used: usize) -> Progress
+    requires { ⌜ (Kept t × (t .lines + 65536 < 2 ^ 63)) × ((2150 ≤ length (now line)) × (length (now chunk) ≤ 65536)) × ((used ≤ length (now out)) × (128 ≤ length (now out))) ⌝ }
     ensures { λ r. ⌜ (Kept (r .state) × (r .state .lines ≤ t .lines + 65536)) × (r .used ≤ length (now (out .entry))) ⌝ }
 {
     let mut state = t;
     let mut waiting = used;
     let mut from = 0;
-    while from < piece.len() {
-        let next = feed_line(state, line, piece, from, out, waiting);
+    while from < chunk.len() {
+        let next = feed_line(state, line, chunk, from, out, waiting);
         if !next.going {
             return next;
         }
@@ -126,7 +126,7 @@ fn feed_all(t: Lister, line: &mut [u8], piece: &[u8], out: &mut [u8], used: usiz
     }
 }
 
-// Reads standard input to its end. A proved loop has to end, so the reads are counted, from 2^46 down: no run uses them up, and as many pieces have fewer than 2^63 lines.
+// Reads standard input to its end. A proved loop has to end, so the reads are counted, from 2^46 down: no run uses them up, and as many chunks have fewer than 2^63 lines.
 fn read_all(line: &mut [u8], buf: &mut [u8], out: &mut [u8]) -> Progress
     requires { ⌜ ((2150 ≤ length (now line)) × (length (now buf) ≤ 65536)) × (128 ≤ length (now out)) ⌝ }
     ensures { λ r. ⌜ (Kept (r .state) × (r .state .lines + 1 < 2 ^ 63)) × (r .used ≤ length (now (out .entry))) ⌝ }
@@ -179,7 +179,7 @@ fn close(t: Lister, line: &[u8], out: &mut [u8], used: usize)
     if !flush(out, last.said) {
         return;
     }
-    let said = listing::sum_up(state, out);
+    let said = listing::close(state, out);
     flush(out, said);
 }
 

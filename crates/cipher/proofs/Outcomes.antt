@@ -15,8 +15,8 @@ schedule-words-decided κs a x y v w p q = (p ∙ sym q, refl)
 pub schedule-turn-decided : Decided proofs.Schedule.turn.Kinds.ps proofs.Schedule.turn.Kinds.r proofs.Schedule.turn.Reads.Post
 schedule-turn-decided κs a x y v w p q = (p ∙ sym q, refl)
 
-pub schedule-run-decided : Decided proofs.Schedule.run.Kinds.ps proofs.Schedule.run.Kinds.r proofs.Schedule.run.Reads.Post
-schedule-run-decided κs a x y v w p q = (p ∙ sym q, refl)
+pub schedule-engine-decided : Decided proofs.Schedule.engine.Kinds.ps proofs.Schedule.engine.Kinds.r proofs.Schedule.engine.Reads.Post
+schedule-engine-decided κs a x y v w p q = (p ∙ sym q, refl)
 
 pub key-words-decided : Decided proofs.key_words.Kinds.ps proofs.key_words.Kinds.r proofs.key_words.Reads.Post
 key-words-decided κs a x y v w p q = (p ∙ sym q, refl)
@@ -24,8 +24,8 @@ key-words-decided κs a x y v w p q = (p ∙ sym q, refl)
 pub turn-words-decided : Decided proofs.turn_words.Kinds.ps proofs.turn_words.Kinds.r proofs.turn_words.Reads.Post
 turn-words-decided κs a x y v w p q = (p ∙ sym q, refl)
 
-pub run-decided : Decided proofs.run.Kinds.ps proofs.run.Kinds.r proofs.run.Reads.Post
-run-decided κs a x y v w p q = (p ∙ sym q, refl)
+pub engine-decided : Decided proofs.engine.Kinds.ps proofs.engine.Kinds.r proofs.engine.Reads.Post
+engine-decided κs a x y v w p q = (p ∙ sym q, refl)
 
 pub encipher-decided : Decided proofs.encipher.Kinds.ps proofs.encipher.Kinds.r proofs.encipher.Reads.Post
 encipher-decided κs a x y v w p q = (p ∙ sym q, refl)

@@ -16,7 +16,7 @@ module _ {c : Cipher} (k : Lawful c) {s : Schedule} (g : ScheduleBelow (c .bits)
   unfolding turned
   turned-twice = λ i. record { w0 = s .w0; w1 = s .w1; k0 = added-twice (s .k0) (c .alpha) (g .k0 .size) i; k1 = mix-twice k (g .k1) i }
 
-  -- "k0 + alpha + alpha" is k0
+  -- k0 + alpha + alpha is k0
   words-agree : (ci t : Cells) → backwardWord c (turned c s) ci t ≡ forwardWord s ci t
   unfolding turned backwardWord forwardWord
   words-agree ci t = rw (added-twice (s .k0) (c .alpha) (g .k0 .size))

@@ -25,12 +25,12 @@ pub record StateBelow (m : ℕ) (x : State) : Type 0 where
 abbrev pub rotatedRight : ℕ → ℕ → ℕ
 rotatedRight n w = w % 2 * 2 ^ (n - 1) + w / 2
 
-abbrev pub outer : ℕ → ℕ → ℕ
-outer n w = rotatedRight n w ⊕ w / 2 ^ (n - 1)
+abbrev pub w1From : ℕ → ℕ → ℕ
+w1From n w = rotatedRight n w ⊕ w / 2 ^ (n - 1)
 
 -- "A key (w0, k0) gives w1 = ..; and k1 = k0"
-abbrev pub keySchedule : ℕ → ℕ → ℕ → Schedule
-keySchedule m w0 k0 = scheduleOf m w0 (outer (16 * m) w0) k0 k0
+abbrev pub keySchedule : Cipher → ℕ → ℕ → Schedule
+keySchedule c w0 k0 = scheduleOf (c .bits) w0 (w1From (16 * c .bits) w0) k0 k0
 
 -- "A forward round with word t: add t, shuffle, mix, box on each cell. Its short form leaves out shuffle and mix."
 unfoldable pub forward : Cipher → ℕ → Cells → Cells → Cells

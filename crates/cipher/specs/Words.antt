@@ -1,14 +1,14 @@
--- Document 01, "The engine", on numbers of 64 bits: "keys, tweaks, blocks and schedule words pass in as 64-bit numbers".
+-- Document 01, "The pad's cipher, its frames, its lines": "keys, tweaks, blocks and schedule words pass in as 64-bit numbers": the engine on such numbers.
 use Prim.Native.Nat.{ℕ}
 use Rattle.words.specs.Cases.{ifLe}
 use Rattle.refusals.specs.declared.Refusal.the-variants.{Settings}
-use Rattle.cells.specs.Cells.{cut, joined}
+use Rattle.cells.specs.Cells.{Cipher, cut, joined}
 use Rattle.cells.specs.Qarma64.{qarma64}
 use Rattle.cipher.specs.Engine.{scheduleOf, keySchedule, engine, turned}
 use Rattle.cipher.specs.declared.Schedule.{Schedule}
 use Rattle.cipher.specs.declared.Words.{Words}
-use Rattle.cipher.specs.declared.Block.{Block}
-use Rattle.cipher.specs.declared.Block.the-variants.{Word, Refused}
+use Rattle.cipher.specs.declared.BlockAnswer.{BlockAnswer}
+use Rattle.cipher.specs.declared.BlockAnswer.the-variants.{Word, Refused}
 
 -- a schedule of four words, and the four words of a schedule
 abbrev pub cutWords : Words → Schedule
@@ -19,26 +19,29 @@ wordsOf s = record { w0 = joined 4 (s .w0); w1 = joined 4 (s .w1); k0 = joined 4
 
 -- the schedule of a key, and a schedule turned, as words
 abbrev pub keyWords : ℕ → ℕ → Words
-keyWords w0 k0 = wordsOf (keySchedule 4 w0 k0)
+keyWords w0 k0 = wordsOf (keySchedule qarma64 w0 k0)
 
 abbrev pub turnedWords : Words → Words
 turnedWords s = wordsOf (turned qarma64 (cutWords s))
 
--- the engine under a schedule, on a tweak and a block of 64 bits
-abbrev pub engineWord : ℕ → ℕ → Schedule → ℕ → ℕ → ℕ
-engineWord b r s t p = joined 4 (engine qarma64 b r s (cut 4 t) (cut 4 p))
+-- the engine under a schedule, on a tweak and a block that are numbers
+abbrev pub engineWord : Cipher → ℕ → ℕ → Schedule → ℕ → ℕ → ℕ
+engineWord c b r s t p = joined (c .bits) (engine c b r s (cut (c .bits) t) (cut (c .bits) p))
 
--- Document 01, "Sizes": "box number 0, 1 or 2; rounds r from 3 to 8", else refusal 1
-unfoldable pub ran : ℕ → ℕ → Schedule → ℕ → ℕ → Block
-ran b r s t p =
-    ifLe b 2 (ifLe 3 r (ifLe r 8 (Word (engineWord b r s t p)) (Refused Settings)) (Refused Settings)) (Refused Settings)
+-- Document 01, "Sizes": "box number 0, 1 or 2; rounds r from 3 to 8": the first within them, else the second
+abbrev pub sized : {A : Type 0} → Cipher → ℕ → ℕ → A → A → A
+sized c b r x y = ifLe b 2 (ifLe 3 r (ifLe r (c .rounds) x y) y) y
 
--- the block calls: the engine on four free words; under the schedule of a key; under that schedule turned
-abbrev pub engineCall : ℕ → ℕ → Words → ℕ → ℕ → Block
-engineCall b r s t p = ran b r (cutWords s) t p
+-- the engine within the sizes, else refusal 1
+unfoldable pub blockCall : ℕ → ℕ → Schedule → ℕ → ℕ → BlockAnswer
+blockCall b r s t p = sized qarma64 b r (Word (engineWord qarma64 b r s t p)) (Refused Settings)
 
-abbrev pub encipherCall : ℕ → ℕ → ℕ → ℕ → ℕ → ℕ → Block
-encipherCall b r w0 k0 t p = ran b r (keySchedule 4 w0 k0) t p
+-- "The engine also runs on four free words.": the block calls on four free words; under the schedule of a key; under that schedule turned
+abbrev pub engineCall : ℕ → ℕ → Words → ℕ → ℕ → BlockAnswer
+engineCall b r s t p = blockCall b r (cutWords s) t p
 
-abbrev pub decipherCall : ℕ → ℕ → ℕ → ℕ → ℕ → ℕ → Block
-decipherCall b r w0 k0 t p = ran b r (turned qarma64 (keySchedule 4 w0 k0)) t p
+abbrev pub encipherCall : ℕ → ℕ → ℕ → ℕ → ℕ → ℕ → BlockAnswer
+encipherCall b r w0 k0 t p = blockCall b r (keySchedule qarma64 w0 k0) t p
+
+abbrev pub decipherCall : ℕ → ℕ → ℕ → ℕ → ℕ → ℕ → BlockAnswer
+decipherCall b r w0 k0 t p = blockCall b r (turned qarma64 (keySchedule qarma64 w0 k0)) t p

@@ -5,8 +5,8 @@ ghost use mathlib.Core.Path.{_≡_};
 ghost use Prim.Native.Nat.{_<_, _≤_};
 ghost use Rattle.cells.specs.Cells.{Below, added, stepped, unstepped};
 ghost use Rattle.cells.specs.Qarma64.{qarma64};
-ghost use Rattle.cipher.specs.Engine.{ScheduleBelow, StateBelow, outer, keySchedule, forward, shortForward, backward, shortBackward, forwardWord, backwardWord, forwardSteps, middle, backwardSteps, engine, turned};
-ghost use Rattle.cipher.specs.Words.{cutWords, wordsOf, keyWords, turnedWords, ran, engineCall, encipherCall, decipherCall};
+ghost use Rattle.cipher.specs.Engine.{ScheduleBelow, StateBelow, w1From, keySchedule, forward, shortForward, backward, shortBackward, forwardWord, backwardWord, forwardSteps, middle, backwardSteps, engine, turned};
+ghost use Rattle.cipher.specs.Words.{cutWords, wordsOf, keyWords, turnedWords, blockCall, engineCall, encipherCall, decipherCall};
 
 // The constants c0 to c7, in cells.
 const CONSTANTS: [[u8; 16]; 8] = [
@@ -46,14 +46,14 @@ pub struct Words {
 }
 
 // What a block call answers.
-pub enum Block {
+pub enum BlockAnswer {
     Word(u64),
     Refused(Refusal),
 }
 
 // The outer word w1 of a key.
-fn outer_word(w0: u64) -> u64
-    ensures { λ r. ⌜ r ≡ outer 64 w0 ⌝ }
+fn w1_from(w0: u64) -> u64
+    ensures { λ r. ⌜ r ≡ w1From 64 w0 ⌝ }
 {
     ((w0 << 63) | (w0 >> 1)) ^ (w0 >> 63)
 }
@@ -112,11 +112,11 @@ impl Schedule {
 
     // The schedule of a key.
     pub fn of_key(w0: u64, k0: u64) -> Schedule
-        ensures { λ r. ⌜ r ≡ keySchedule 4 w0 k0 ⌝ }
+        ensures { λ r. ⌜ r ≡ keySchedule qarma64 w0 k0 ⌝ }
     {
         Schedule {
             w0: Cells::of(w0),
-            w1: Cells::of(outer_word(w0)),
+            w1: Cells::of(w1_from(w0)),
             k0: Cells::of(k0),
             k1: Cells::of(k0),
         }
@@ -243,7 +243,7 @@ impl Schedule {
     }
 
     // The engine on a block under a tweak.
-    pub fn run(self, number: u64, rounds: usize, tweak: Cells, block: Cells) -> Cells
+    pub fn engine(self, number: u64, rounds: usize, tweak: Cells, block: Cells) -> Cells
         requires { ⌜ ((number < 3) × ((3 ≤ rounds) × (rounds ≤ 8))) × (ScheduleBelow 4 self × (Below 4 tweak × Below 4 block)) ⌝ }
         ensures { λ r. ⌜ r ≡ engine qarma64 number rounds self tweak block ⌝ }
     {
@@ -264,21 +264,21 @@ impl Schedule {
 }
 
 // The engine's answer under a schedule, or refusal 1.
-fn run_within(number: u64, rounds: u64, schedule: Schedule, tweak: u64, block: u64) -> Block
+fn block_call(number: u64, rounds: u64, schedule: Schedule, tweak: u64, block: u64) -> BlockAnswer
     requires { ⌜ ScheduleBelow 4 schedule ⌝ }
-    ensures { λ r. ⌜ r ≡ ran number rounds schedule tweak block ⌝ }
+    ensures { λ r. ⌜ r ≡ blockCall number rounds schedule tweak block ⌝ }
 {
     if 2 < number {
-        return Block::Refused(Refusal::Settings);
+        return BlockAnswer::Refused(Refusal::Settings);
     }
     if rounds < 3 {
-        return Block::Refused(Refusal::Settings);
+        return BlockAnswer::Refused(Refusal::Settings);
     }
     if 8 < rounds {
-        return Block::Refused(Refusal::Settings);
+        return BlockAnswer::Refused(Refusal::Settings);
     }
-    let answer = schedule.run(number, rounds as usize, Cells::of(tweak), Cells::of(block));
-    Block::Word(answer.word())
+    let answer = schedule.engine(number, rounds as usize, Cells::of(tweak), Cells::of(block));
+    BlockAnswer::Word(answer.word())
 }
 
 // The four words of a key's schedule.
@@ -296,23 +296,23 @@ pub fn turn_words(words: Words) -> Words
 }
 
 // The engine on a block under a tweak and four free words.
-pub fn run(number: u64, rounds: u64, words: Words, tweak: u64, block: u64) -> Block
+pub fn engine(number: u64, rounds: u64, words: Words, tweak: u64, block: u64) -> BlockAnswer
     ensures { λ r. ⌜ r ≡ engineCall number rounds words tweak block ⌝ }
 {
-    run_within(number, rounds, Schedule::of(words), tweak, block)
+    block_call(number, rounds, Schedule::of(words), tweak, block)
 }
 
 // A block enciphered: the engine under the schedule of a key.
-pub fn encipher(number: u64, rounds: u64, w0: u64, k0: u64, tweak: u64, block: u64) -> Block
+pub fn encipher(number: u64, rounds: u64, w0: u64, k0: u64, tweak: u64, block: u64) -> BlockAnswer
     ensures { λ r. ⌜ r ≡ encipherCall number rounds w0 k0 tweak block ⌝ }
 {
-    run_within(number, rounds, Schedule::of_key(w0, k0), tweak, block)
+    block_call(number, rounds, Schedule::of_key(w0, k0), tweak, block)
 }
 
 // A block deciphered: the engine under the turned schedule of a key, and nothing else.
-pub fn decipher(number: u64, rounds: u64, w0: u64, k0: u64, tweak: u64, block: u64) -> Block
+pub fn decipher(number: u64, rounds: u64, w0: u64, k0: u64, tweak: u64, block: u64) -> BlockAnswer
     ensures { λ r. ⌜ r ≡ decipherCall number rounds w0 k0 tweak block ⌝ }
 {
     let turned = Schedule::of_key(w0, k0).turn();
-    run_within(number, rounds, turned, tweak, block)
+    block_call(number, rounds, turned, tweak, block)
 }

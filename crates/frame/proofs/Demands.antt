@@ -1,10 +1,10 @@
--- Demand 2 for frames: "Opening accepts a frame exactly when sealing some message of the stated length under that key, serial and label produces it, and hands out that message."
-use mathlib.Core.Bool.{Bool, true, false}
-use mathlib.Core.Path.{_≡_, refl, sym, ap, ap₂, subst, _∙_}
+-- Demand 2 for frames (docs/CONTRACTS.md): "Opening accepts a frame exactly when sealing some message of the stated length under that key, serial and label produces it, and hands out that message."
+use mathlib.Core.Bool.{true, false}
+use mathlib.Core.Path.{_≡_, refl, sym, ap, _∙_}
 use mathlib.Core.List.{List, [], _∷_, _++_}
-use mathlib.Core.Logic.{_⊎_, inl, inr}
-use Prim.Native.Nat.{ℕ, zero, suc, _+_, _-_, _*_, _/_, _%_, _^_, _<_, _≤_}
-use native.Mathlib.Nat.{eq-zero-or-pos, mul-mod-left}
+use mathlib.Core.Logic.{inl, inr}
+use Prim.Native.Nat.{ℕ, suc, _+_, _-_, _*_, _/_, _%_, _^_, _<_, _≤_}
+use native.Mathlib.Nat.{mul-mod-left}
 use native.Mathlib.Omega.{arith}
 use borrow.Author.Tests.{eq-eqb, eqb-true, eqb-false, ne-eqb}
 use lib.Dec.{eqb}
@@ -13,29 +13,27 @@ use lib.Pow.{pow-add, pow-pos, mod-mod-pow}
 use lib.Seq.{take-at}
 use Rattle.words.specs.Cases.{ifYes}
 use Rattle.words.specs.Digits.{word, Digits}
-use Rattle.words.proofs.Laws.{le-case, gt-case, yes-case, no-case}
 use Rattle.refusals.specs.declared.Answer.{Answer}
 use Rattle.refusals.specs.declared.Answer.the-variants.{Wrote, Refused}
-use Rattle.refusals.specs.declared.Refusal.the-variants.{SealedSize, Room, Disagrees}
-use Rattle.refusals.proofs.Answers.{not-both, among, Can, can-refused, can-wrote, can-same, can-le, can-yes}
+use Rattle.refusals.specs.declared.Refusal.the-variants.{Length, Serial, SealedSize, Room, Disagrees}
+use Rattle.refusals.specs.Refusals.{written}
+use Rattle.words.specs.Lists.{among}
+use Rattle.words.proofs.Cases.{le-case, gt-case, yes-case, no-case, yes-or-no, by-lt, not-true-false}
+use Rattle.refusals.proofs.Answers.{not-both, Can, can-refused, can-wrote, can-same, can-le, can-yes, can-give, gives}
 use Rattle.cells.specs.Qarma64.{qarma64}
 use Rattle.cipher.specs.Engine.{ScheduleBelow, keySchedule, turned}
 use Rattle.cipher.specs.declared.Schedule.{Schedule}
 use Rattle.cipher.proofs.Demands.{key-below}
-use Rattle.frame.specs.Blocks.{blocks, part, tweak, purpose}
-use Rattle.frame.specs.Frames.{frameEngine, sealedSize, sealedBytes, sealing, openedBlock, openedMessage, accepted, opening, SealedFrom, Within}
+use Rattle.frame.specs.Blocks.{part, tweak, purpose}
+use Rattle.frame.specs.Frames.{messageMax, labelMax, serialMax, frameEngine, sealedSize, sealedBytes, sealing, openedBlock, openedMessage, accepted, opening, SealedFrom, Within}
 use Rattle.frame.proofs.Fills.{fill-found}
-use Rattle.frame.proofs.Limits.{goes-on, can-limited}
-use Rattle.frame.proofs.Opening.{accepted-sealed, accepted-both, sealed-size, sealed-accepted, sealed-message}
-
-yes-or-no : (t : Bool) → (t ≡ true) ⊎ (t ≡ false)
-yes-or-no true = inl refl
-yes-or-no false = inr refl
+use Rattle.frame.proofs.Limits.{goes-on, long-message, long-label, high-serial, can-limited}
+use Rattle.frame.proofs.Opening.{accepted-sealed, accepted-both, sealed-length, message-length, sealed-size, sealed-accepted, sealed-message}
 
 module _ (w0 k0 serial : ℕ) (a : List ℕ) where
   -- the schedule of the key
   abbrev s : Schedule
-  s = keySchedule 4 w0 k0
+  s = keySchedule qarma64 w0 k0
 
   g : ScheduleBelow 4 s
   g = key-below w0 k0
@@ -45,11 +43,25 @@ module _ (w0 k0 serial : ℕ) (a : List ℕ) where
       → sealing w0 k0 serial a m out ≡ (Wrote (sealedSize (length m)), sealedBytes s serial a m ++ drop (sealedSize (length m)) out)
   unfolding sealing
   seals m out h room =
-      sym (le-case (sealedSize (length m)) (length out) _ _ room ∙ goes-on serial a (length m) out _ h)
+      sym (gives (sealedBytes s serial a m) out _ (sealed-length s serial a m) room ∙ goes-on serial a (length m) out _ h)
+
+  -- outside the limits opening gives 2 or 3
+  module _ (n : ℕ) (c out : List ℕ) where
+    pub open-message : messageMax < n → opening w0 k0 serial n a c out ≡ (Refused Length, out)
+    unfolding opening
+    open-message h = sym (long-message serial a n out _ h)
+
+    pub open-label : n ≤ messageMax → labelMax < length a → opening w0 k0 serial n a c out ≡ (Refused Length, out)
+    unfolding opening
+    open-label h l = sym (long-label serial a n out _ h l)
+
+    pub open-serial : n ≤ messageMax → length a ≤ labelMax → serialMax < serial → opening w0 k0 serial n a c out ≡ (Refused Serial, out)
+    unfolding opening
+    open-serial h l k = sym (high-serial serial a n out _ h l k)
 
   module _ (n : ℕ) (c out : List ℕ) (h : Within serial a n) where
     abbrev found : Answer × List ℕ
-    found = ifYes (accepted s serial a n c) (Wrote n, openedMessage (turned qarma64 s) serial n c ++ drop n out) (Refused Disagrees, out)
+    found = ifYes (accepted s serial a n c) (written (openedMessage (turned qarma64 s) serial n c) out) (Refused Disagrees, out)
 
     within : n ≤ length out → length c ≡ sealedSize n → opening w0 k0 serial n a c out ≡ found
     unfolding opening
@@ -59,23 +71,26 @@ module _ (w0 k0 serial : ℕ) (a : List ℕ) where
         ∙ yes-case (eqb (length c) (sealedSize n)) _ _ (eq-eqb (length c) (sealedSize n) e)
         ∙ goes-on serial a n out _ h)
 
+    pub accepts : n ≤ length out → length c ≡ sealedSize n → accepted s serial a n c ≡ true
+        → opening w0 k0 serial n a c out ≡ (Wrote n, openedMessage (turned qarma64 s) serial n c ++ drop n out)
+    accepts room e y =
+        within room e
+        ∙ sym (yes-case (accepted s serial a n c) _ _ y)
+        ∙ ap (λ (k : ℕ). (Wrote k, openedMessage (turned qarma64 s) serial n c ++ drop k out)) (message-length (turned qarma64 s) serial n c)
+
+    pub disagrees : n ≤ length out → length c ≡ sealedSize n → accepted s serial a n c ≡ false → opening w0 k0 serial n a c out ≡ (Refused Disagrees, out)
+    disagrees room e y = within room e ∙ sym (no-case (accepted s serial a n c) _ (Refused Disagrees, out) y)
+
     -- opening accepts what was sealed, and hands out the message
     pub opens : n ≤ length out → (x : SealedFrom s serial a n c) → opening w0 k0 serial n a c out ≡ (Wrote n, x .message ++ drop n out)
     opens room x =
-        within room (sealed-size g serial a x)
-        ∙ sym (yes-case (accepted s serial a n c) _ _ (sealed-accepted g serial a x))
-        ∙ ap (λ (m : List ℕ). (Wrote n, m ++ drop n out)) (sealed-message g serial a x)
+        accepts room (sealed-size g serial a x) (sealed-accepted g serial a x) ∙ ap (λ (m : List ℕ). (Wrote n, m ++ drop n out)) (sealed-message g serial a x)
 
     -- and nothing else: other sealed bytes of the right length are refused, 6
     pub refuses : n ≤ length out → Digits 8 c → length c ≡ sealedSize n → (SealedFrom s serial a n c → ⊥) → opening w0 k0 serial n a c out ≡ (Refused Disagrees, out)
-    refuses room hc e never =
-        within room e
-        ∙ elim (yes-or-no (accepted s serial a n c)) [
-          | inl y ↦ absurd (never (accepted-sealed g serial a n hc e y))
-          | inr y ↦ sym (no-case (accepted s serial a n c) _ (Refused Disagrees, out) y)
-        ]
+    refuses room hc e never = disagrees room e (not-true-false (accepted s serial a n c) (λ y. never (accepted-sealed g serial a n hc e y)))
 
-    refuses-size : (length c ≡ sealedSize n → ⊥) → opening w0 k0 serial n a c out ≡ (Refused SealedSize, out)
+    pub refuses-size : (length c ≡ sealedSize n → ⊥) → opening w0 k0 serial n a c out ≡ (Refused SealedSize, out)
     unfolding opening
     refuses-size other =
         sym
@@ -94,10 +109,8 @@ module _ (w0 k0 serial : ℕ) (a : List ℕ) where
     -- inside the limits and with the right number of sealed bytes, 5 and 6 are left
     pub can-five-six : {ns : List ℕ} → among 5 ns ≡ true → among 6 ns ≡ true → length c ≡ sealedSize n → Can ns out (opening w0 k0 serial n a c out)
     can-five-six five six e =
-        elim (eq-zero-or-pos (n - length out)) [
-          | inl z ↦ can-same (within (omega arith) e) (can-yes _ can-wrote (can-refused Disagrees six))
-          | inr z ↦ can-same (no-room e (omega arith)) (can-refused Room five)
-        ]
+        by-lt (length out) n (λ l. can-same (no-room e l) (can-refused Room five))
+        (λ l. can-same (within l e) (can-yes _ can-wrote (can-refused Disagrees six)))
 
     pub opens-only : n ≤ length out → Digits 8 c → (k : ℕ) (o : List ℕ) → opening w0 k0 serial n a c out ≡ (Wrote k, o) → SealedFrom s serial a n c
     opens-only room hc k o opened =
@@ -105,7 +118,7 @@ module _ (w0 k0 serial : ℕ) (a : List ℕ) where
           | inl y ↦
               elim (yes-or-no (accepted s serial a n c)) [
                 | inl z ↦ accepted-sealed g serial a n hc (eqb-true _ _ y) z
-                | inr z ↦ absurd (not-both (sym opened ∙ within room (eqb-true _ _ y) ∙ sym (no-case (accepted s serial a n c) _ (Refused Disagrees, out) z)))
+                | inr z ↦ absurd (not-both (sym opened ∙ disagrees room (eqb-true _ _ y) z))
               ]
           | inr y ↦ absurd (not-both (sym opened ∙ refuses-size (eqb-false _ _ y)))
         ]
@@ -113,14 +126,14 @@ module _ (w0 k0 serial : ℕ) (a : List ℕ) where
   -- "Sealing can give 2, 3, 5"
   pub seal-can : (m out : List ℕ) → Can (2 ∷ 3 ∷ 5 ∷ []) out (sealing w0 k0 serial a m out)
   unfolding sealing
-  seal-can m out = can-limited _ _ _ refl refl (can-le _ _ can-wrote (can-refused Room refl))
+  seal-can m out = can-limited _ _ _ refl refl (can-give (sealedBytes s serial a m) refl)
 
   -- "opening 2 to 6"
   pub open-can : (n : ℕ) (c out : List ℕ) → Can (2 ∷ 3 ∷ 4 ∷ 5 ∷ 6 ∷ []) out (opening w0 k0 serial n a c out)
   unfolding opening
   open-can n c out = can-limited _ _ _ refl refl (can-yes _ (can-le _ _ (can-yes _ can-wrote (can-refused Disagrees refl)) (can-refused Room refl)) (can-refused SealedSize refl))
 
-  -- "opening what was sealed gives the message back": sealed into one memory, opened into another
+  -- opening what was sealed gives the message back: sealed into one memory, opened into another
   pub comes-back : (m out into : List ℕ) → Digits 8 m → Within serial a (length m) → sealedSize (length m) ≤ length out → length m ≤ length into
       → opening w0 k0 serial (length m) a (take (sealedSize (length m)) (sealing w0 k0 serial a m out .1)) into ≡ (Wrote (length m), m ++ drop (length m) into)
   comes-back m out into hm h room enough =
@@ -133,7 +146,7 @@ module _ (w0 k0 serial : ℕ) (a : List ℕ) where
   pub one-message : {n : ℕ} {c : List ℕ} (x y : SealedFrom s serial a n c) → x .message ≡ y .message
   one-message x y = sym (sealed-message g serial a x) ∙ sealed-message g serial a y
 
--- ---- "no sealed text opens at two lengths"
+-- ---- "Accepting any fill after the stated length, so that one sealed text opens at two lengths": at most one length with a fill, and at most one without
 
 -- a one bit and zeros behind it stand in one place only
 one-mark : (w j k : ℕ) → w % 2 ^ suc j ≡ 2 ^ j → w % 2 ^ suc k ≡ 2 ^ k → j < k → ⊥
@@ -173,14 +186,8 @@ module _ {s : Schedule} (g : ScheduleBelow 4 s) (serial : ℕ) (a c : List ℕ) 
       let fn = last-fill n (n / 8) refl hn x in
       let fk = last-fill k (n / 8) q hk y in
       let w = frameEngine (turned qarma64 s) (tweak 1 serial (n / 8)) (word 8 (part c (n / 8))) in
-      elim (eq-zero-or-pos (k % 8 - n % 8)) [
-        | inr e ↦ absurd (one-fill w (n % 8) (k % 8) (omega arith) (omega arith) fn fk (omega arith))
-        | inl e ↦
-            elim (eq-zero-or-pos (n % 8 - k % 8)) [
-              | inr d ↦ absurd (one-fill w (k % 8) (n % 8) (omega arith) (omega arith) fk fn (omega arith))
-              | inl d ↦ omega arith
-            ]
-      ]
+      by-lt (n % 8) (k % 8) (λ l. absurd (one-fill w (n % 8) (k % 8) (omega arith) (omega arith) fn fk l))
+      (λ j. by-lt (k % 8) (n % 8) (λ l. absurd (one-fill w (k % 8) (n % 8) (omega arith) (omega arith) fk fn l)) (λ l. omega arith))
 
   -- and at two without
   pub one-length-whole : (n k : ℕ) → n % 8 ≡ 0 → k % 8 ≡ 0 → SealedFrom s serial a n c → SealedFrom s serial a k c → n ≡ k

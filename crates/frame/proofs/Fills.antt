@@ -2,9 +2,9 @@
 use mathlib.Core.Bool.{true}
 use mathlib.Core.Path.{_≡_, refl, sym, ap, ap₂, subst, _∙_}
 use mathlib.Core.List.{List, _∷_}
-use mathlib.Core.Logic.{_⊎_, inl, inr}
-use Prim.Native.Nat.{ℕ, zero, suc, _+_, _-_, _*_, _/_, _%_, _^_, _<_, _≤_}
-use native.Mathlib.Nat.{add-mul, mul-assoc, mod-lt, eq-or-lt-of-le}
+use mathlib.Core.Logic.{inl, inr}
+use Prim.Native.Nat.{ℕ, _+_, _-_, _*_, _/_, _%_, _^_, _<_, _≤_}
+use native.Mathlib.Nat.{add-mul, mul-assoc, eq-or-lt-of-le}
 use native.Mathlib.Omega.{arith}
 use borrow.Author.Tests.{eq-eqb, eqb-true}
 use lib.Dec.{eqb}
@@ -13,10 +13,11 @@ use lib.Pow.{pow-add, pow-lt, shr-lt, split, low}
 use lib.Seq.{take-at, drop-at, take-length, length-take-le}
 use Rattle.words.specs.Cases.{ifLe}
 use Rattle.words.specs.Digits.{word, digits, Digits}
-use Rattle.words.proofs.Laws.{word-append, word-low, word-digits, digits-add, digits-word, word-fits, length-digits, le-case, gt-case}
+use Rattle.words.proofs.Laws.{word-append, word-low, word-digits, digits-add, digits-word, word-fits, length-digits}
+use Rattle.words.proofs.Cases.{le-case, gt-case}
 use Rattle.frame.specs.Blocks.{filled}
 use Rattle.frame.specs.Frames.{fillRight}
-use Rattle.frame.proofs.Laws.{padded, padded-bytes, padded-eight, whole-filled, short-filled, word-zeros, first-bytes}
+use Rattle.frame.proofs.Laws.{padded-bytes, padded-eight, whole-filled, short-filled, word-zeros, first-bytes}
 
 -- ---- made
 

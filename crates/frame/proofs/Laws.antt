@@ -3,20 +3,21 @@ use mathlib.Core.Bool.{true}
 use mathlib.Core.Path.{_≡_, refl, sym, ap, _∙_}
 use mathlib.Core.List.{List, [], _∷_, _++_}
 use Prim.Native.Nat.{ℕ, zero, suc, _+_, _-_, _*_, _/_, _%_, _^_, _<_, _≤_}
-use native.Mathlib.Nat.{zero-add, suc-add, mul-zero, mul-suc, mul-one, mul-assoc, add-comm, add-zero, mod-eq-of-lt, lt-of-le-of-lt, le-add-right}
+use native.Mathlib.Nat.{mul-zero, mul-suc, mul-one, mul-assoc, add-comm, add-zero, mod-eq-of-lt, lt-of-le-of-lt, le-add-right}
 use native.Mathlib.Omega.{arith}
 use borrow.Rule.Slice.PartMut.{putMid}
 use lib.Dec.{eqb, lit<}
 use native.Mathlib.Numerals.{add-one}
-use lib.ListN.{length, getD, take, drop, set, replicate, length-append, length-replicate, length-take, length-drop}
+use lib.ListN.{length, getD, take, drop, set, replicate, length-append, length-replicate}
 use lib.Pow.{pow-pos, pow-add}
 use lib.Seq.{take-suc-set, take-all, take-at, take-append-add, length-take-le, getD-take}
-use Rattle.cells.specs.Lists.{upto, sum}
+use Rattle.words.specs.Lists.{upto, sum}
 use Rattle.cells.proofs.Upto.{upto-at, upto-length}
 use Rattle.cells.proofs.Xor.{sum-same}
 use Rattle.words.specs.Cases.{ifLe}
 use Rattle.words.specs.Digits.{wordFrom, word, digits, Digits, none, more, laid}
-use Rattle.words.proofs.Laws.{word-append, word-fits, digits-append, grows, mid-turn, digits-add, length-digits, length-laid, laid-same, le-case, gt-case}
+use Rattle.words.proofs.Laws.{word-append, word-fits, digits-append, grows, mid-turn, digits-add, length-digits, length-laid, laid-same}
+use Rattle.words.proofs.Cases.{le-case, gt-case}
 use Rattle.frame.specs.Blocks.{blocks, filled}
 use Rattle.frame.specs.Frames.{fillRight}
 
@@ -65,7 +66,7 @@ put-behind n b t d out ys h o y = rw (o, y) (mid-turn b d t (n * 8) (n * 8 + 8 -
 
 -- ---- words in a list
 
-upto-more : (n : ℕ) (f : ℕ → ℕ) → upto (suc n) f ≡ upto n f ++ (f n ∷ [])
+pub upto-more : (n : ℕ) (f : ℕ → ℕ) → upto (suc n) f ≡ upto n f ++ (f n ∷ [])
 unfolding upto
 upto-more zero f = refl
 upto-more (suc n) f = ap (λ (l : List ℕ). f 0 ∷ l) (upto-more n (λ i. f (suc i)))

@@ -1,20 +1,20 @@
 -- What opening accepts was sealed, and what was sealed opening accepts: block by block, the engine under the turned schedule undoes the engine.
-use mathlib.Core.Bool.{Bool, true, false}
+use mathlib.Core.Bool.{true, false}
 use mathlib.Core.Path.{_≡_, refl, sym, ap, ap₂, subst, _∙_}
 use mathlib.Core.List.{List, [], _++_, append-nil}
-use mathlib.Core.Logic.{_⊎_, inl, inr}
-use Prim.Native.Nat.{ℕ, zero, suc, _+_, _-_, _*_, _/_, _%_, _^_, _<_, _≤_}
-use native.Mathlib.Nat.{eq-zero-or-pos, eq-or-lt-of-le}
+use mathlib.Core.Logic.{inl, inr}
+use Prim.Native.Nat.{ℕ, suc, _+_, _-_, _*_, _/_, _%_, _^_, _<_, _≤_}
+use native.Mathlib.Nat.{eq-or-lt-of-le}
 use native.Mathlib.Omega.{arith}
 use borrow.Author.Tests.{eq-eqb, eqb-true}
 use lib.Bits.{xor-lt}
-use lib.Dec.{eqb, lit<}
-use lib.ListN.{length, take, drop, length-append, length-take, length-drop}
+use lib.Dec.{eqb}
+use lib.ListN.{length, take, length-append, length-take, length-drop}
 use lib.Seq.{take-all, length-take-le}
-use Rattle.words.specs.Cases.{ifYes}
-use Rattle.words.specs.Digits.{_⊕_, word, digits, Digits, laid}
-use Rattle.words.proofs.Laws.{word-digits, word-fits, length-digits, length-laid, laid-same, laid-below, digits-append, digits-below, digits-take, digits-drop, yes-case, both-yes}
-use Rattle.cells.specs.Lists.{sum}
+use Rattle.words.specs.Digits.{word, digits, Digits, laid}
+use Rattle.words.proofs.Laws.{word-digits, word-fits, length-digits, length-laid, laid-same, laid-below, digits-append, digits-below, digits-take, digits-drop}
+use Rattle.words.specs.Lists.{sum}
+use Rattle.words.proofs.Cases.{yes-case, both-yes, by-lt}
 use Rattle.cells.specs.Qarma64.{qarma64}
 use Rattle.cells.proofs.Lawful.{lawful64}
 use Rattle.cells.proofs.Xor.{sum-same, sum-below}
@@ -22,8 +22,8 @@ use Rattle.cipher.specs.Engine.{ScheduleBelow, turned}
 use Rattle.cipher.specs.declared.Schedule.{Schedule}
 use Rattle.cipher.proofs.Rounds.{turned-below}
 use Rattle.cipher.proofs.Demands.{word-below, word-undone, word-redone}
-use Rattle.frame.specs.Blocks.{blocks, part, filled, block, tweak, purpose, tagPurpose}
-use Rattle.frame.specs.Frames.{frameEngine, labelSum, tagOf, sealedSize, sealedBytes, openedBlock, openedMessage, fillRight, accepted, SealedFrom}
+use Rattle.frame.specs.Blocks.{blocks, part, filled, block, tweak, purpose}
+use Rattle.frame.specs.Frames.{frameEngine, tagOf, sealedSize, sealedBytes, openedBlock, openedMessage, fillRight, accepted, SealedFrom}
 use Rattle.frame.proofs.Laws.{whole-filled}
 use Rattle.frame.proofs.Fills.{fill-none, fill-made, fill-found, fill-again, fill-off, filled-fits}
 use Rattle.frame.proofs.Parts.{part-take, part-laid, part-behind, part-word, same-parts}
@@ -48,6 +48,9 @@ sealed-below s serial a m = digits-append (laid-below (blocks (length m)) _) (di
 pub sealed-length : (s : Schedule) (serial : ℕ) (a m : List ℕ) → length (sealedBytes s serial a m) ≡ sealedSize (length m)
 unfolding sealedBytes
 sealed-length s serial a m = rw (length-append, length-laid, length-digits)
+
+pub message-length : (u : Schedule) (serial n : ℕ) (c : List ℕ) → length (openedMessage u serial n c) ≡ n
+message-length u serial n c = length-take-le n (laid (blocks n) (openedBlock u serial n c)) (rw length-laid (omega arith))
 
 module _ {s : Schedule} (g : ScheduleBelow 4 s) (serial : ℕ) (a : List ℕ) where
   abbrev u : Schedule
@@ -90,9 +93,6 @@ module _ {s : Schedule} (g : ScheduleBelow 4 s) (serial : ℕ) (a : List ℕ) wh
     below : (i : ℕ) → f i < 2 ^ 64
     below i = word-below 1 7 (omega arith) (turned-below lawful64 g) _ _
 
-    message-size : length m ≡ n
-    message-size = length-take-le n (laid (blocks n) f) (rw length-laid (omega arith))
-
     block-whole : (i : ℕ) → i < blocks n → i * 8 + 8 ≤ n → block m i ≡ f i
     block-whole i h w =
         ap (λ (p : List ℕ). word 8 (filled p)) (part-first n f i h ∙ take-all (n - i * 8) (digits 8 8 (f i)) (omega arith))
@@ -107,11 +107,7 @@ module _ {s : Schedule} (g : ScheduleBelow 4 s) (serial : ℕ) (a : List ℕ) wh
         ∙ fill-again (n % 8) (f i) (omega arith) (below i) (fill-found n (f i) (omega arith) (subst (λ (k : ℕ). fillRight n (f k) ≡ true) q (accepted-both n c yes .0)))
 
     block-back : (i : ℕ) → i < blocks n → block m i ≡ f i
-    block-back i h =
-        elim (eq-zero-or-pos (i * 8 + 8 - n)) [
-          | inl e ↦ block-whole i h (omega arith)
-          | inr e ↦ block-last i h (omega arith)
-        ]
+    block-back i h = by-lt n (i * 8 + 8) (block-last i h) (block-whole i h)
 
     part-fits : (i : ℕ) → word 8 (part c i) < 2 ^ 64
     part-fits i = word-fits (part-bytes i hc) (omega (arith, part-size c i))
@@ -147,10 +143,10 @@ module _ {s : Schedule} (g : ScheduleBelow 4 s) (serial : ℕ) (a : List ℕ) wh
         record {
           message = m;
           bytes = digits-take n (laid-below (blocks n) f);
-          size = message-size;
+          size = message-length u serial n c;
           sealed =
               sealed-as m
-              ∙ ap (λ (k : ℕ). sealedAs k (block m)) message-size
+              ∙ ap (λ (k : ℕ). sealedAs k (block m)) (message-length u serial n c)
               ∙ blocks-back
               ∙ same-parts (suc (blocks n)) (sealedAs n f) c (omega (arith, size-as n f)) (omega arith) part-back;
         }
@@ -176,10 +172,8 @@ module _ {s : Schedule} (g : ScheduleBelow 4 s) (serial : ℕ) (a : List ℕ) wh
 
     fill-yes : fillRight n (deciphered (n / 8)) ≡ true
     fill-yes =
-        elim (eq-zero-or-pos (n % 8)) [
-          | inl e ↦ fill-none n (deciphered (n / 8)) e
-          | inr e ↦ ap (fillRight n) (opened-block (n / 8) (omega arith)) ∙ fill-made n (part m (n / 8)) e (simp (length-take, length-drop) (omega arith))
-        ]
+        by-lt 0 (n % 8) (λ l. ap (fillRight n) (opened-block (n / 8) (omega arith)) ∙ fill-made n (part m (n / 8)) l (simp (length-take, length-drop) (omega arith)))
+        (λ l. fill-none n (deciphered (n / 8)) (omega arith))
 
     tag-yes : eqb (tagOf s serial a n (sum (blocks n) deciphered)) (word 8 (part c (blocks n))) ≡ true
     tag-yes =
@@ -208,13 +202,10 @@ module _ {s : Schedule} (g : ScheduleBelow 4 s) (serial : ℕ) (a : List ℕ) wh
     message-part i h =
         part-first n deciphered i h
         ∙ ap (λ (w : ℕ). take (n - i * 8) (digits 8 8 w)) (opened-block i h)
-        ∙ elim (eq-zero-or-pos (i * 8 + 8 - n)) [
-          | inl e ↦ message-whole i h (omega arith)
-          | inr e ↦ message-last i (omega arith)
-        ]
+        ∙ by-lt n (i * 8 + 8) (message-last i) (message-whole i h)
 
     message-as : openedMessage u serial n c ≡ m
-    message-as = same-parts (blocks n) (openedMessage u serial n c) m (simp length-take (omega (arith, length-laid (blocks n) deciphered))) (omega arith) message-part
+    message-as = same-parts (blocks n) (openedMessage u serial n c) m (omega (arith, message-length u serial n c)) (omega arith) message-part
 
   pub sealed-size : {n : ℕ} {c : List ℕ} (x : SealedFrom s serial a n c) → length c ≡ sealedSize n
   sealed-size x = ap length (sym (x .sealed)) ∙ sealed-length s serial a (x .message) ∙ ap sealedSize (x .size)

@@ -8,9 +8,10 @@ use lib.ListN.{length, take, drop, replicate}
 use Rattle.words.specs.Cases.{ifLe, ifYes}
 use Rattle.words.specs.Digits.{_⊕_, word, digits, Digits, laid}
 use Rattle.refusals.specs.declared.Answer.{Answer}
-use Rattle.refusals.specs.declared.Answer.the-variants.{Wrote, Refused}
-use Rattle.refusals.specs.declared.Refusal.the-variants.{Length, Serial, SealedSize, Room, Disagrees}
-use Rattle.cells.specs.Lists.{sum}
+use Rattle.refusals.specs.declared.Answer.the-variants.{Refused}
+use Rattle.refusals.specs.declared.Refusal.the-variants.{Length, Serial, SealedSize, Disagrees}
+use Rattle.refusals.specs.Refusals.{roomFor, written, giving}
+use Rattle.words.specs.Lists.{sum}
 use Rattle.cells.specs.Qarma64.{qarma64}
 use Rattle.cipher.specs.Engine.{keySchedule, turned}
 use Rattle.cipher.specs.Words.{engineWord}
@@ -19,9 +20,9 @@ use Rattle.frame.specs.Blocks.{blocks, part, block, tweak, purpose, tagP
 
 -- Document 01, "Sizes": "Frames use box 1 and r = 7." The label is called a here, the sealed bytes c, and n is the length of the message.
 abbrev pub frameEngine : Schedule → ℕ → ℕ → ℕ
-frameEngine s t p = engineWord 1 7 s t p
+frameEngine s t p = engineWord qarma64 1 7 s t p
 
--- "Each message block is enciphered under its tweak. .. The index is the block's number from 0": block i of some bytes, by the purpose of a whole one
+-- "The index is the block's number from 0"; "Each message block is enciphered under its tweak.": block i of some bytes, by the purpose of a whole one
 abbrev pub sealedBlock : Schedule → ℕ → ℕ → List ℕ → ℕ → ℕ
 sealedBlock s whole serial x i = frameEngine s (tweak (purpose whole (length x) i) serial i) (block x i)
 
@@ -43,26 +44,32 @@ sealedBytes s serial a m =
     laid (blocks (length m)) (sealedBlock s 0 serial m)
     ++ digits 8 8 (tagOf s serial a (length m) (sum (blocks (length m)) (block m)))
 
--- "message 0 to 1,024 bytes; label (the associated data) 0 to 32 bytes; serial 0 to 2^44 - 1": refusals 2 and 3 of a message of n bytes, or what comes after them
+-- Document 01, "Sizes": "message 0 to 1,024 bytes; label (the associated data) 0 to 32 bytes; serial 0 to 2^44 - 1"
+abbrev pub messageMax : ℕ
+messageMax = 1024
+
+abbrev pub labelMax : ℕ
+labelMax = 32
+
+abbrev pub serialMax : ℕ
+serialMax = 2 ^ 44 - 1
+
+-- refusals 2 and 3 of a message of n bytes, or what comes after them
 unfoldable pub limited : ℕ → List ℕ → ℕ → List ℕ → Answer × List ℕ → Answer × List ℕ
 limited serial a n out x =
-    ifLe n 1024
-    (ifLe (length a) 32
-    (ifLe serial (2 ^ 44 - 1)
+    ifLe n messageMax
+    (ifLe (length a) labelMax
+    (ifLe serial serialMax
     x
     (Refused Serial, out))
     (Refused Length, out))
     (Refused Length, out)
 
--- "Sealing can give 2, 3, 5", in this order; else the sealed bytes, in the place of the first bytes of the output
+-- Document 01, "What a refused caller gets": "Sealing can give 2, 3, 5", in this order; else it writes the sealed bytes
 unfoldable pub sealing : ℕ → ℕ → ℕ → List ℕ → List ℕ → List ℕ → Answer × List ℕ
-sealing w0 k0 serial a m out =
-    limited serial a (length m) out
-    (ifLe (sealedSize (length m)) (length out)
-    (Wrote (sealedSize (length m)), sealedBytes (keySchedule 4 w0 k0) serial a m ++ drop (sealedSize (length m)) out)
-    (Refused Room, out))
+sealing w0 k0 serial a m out = limited serial a (length m) out (giving (sealedBytes (keySchedule qarma64 w0 k0) serial a m) out)
 
--- Opening: block i of the sealed bytes c of a message of n bytes, under the turned schedule u
+-- "Opening is told the message length.": block i of the sealed bytes c of a message of n bytes, under the turned schedule u
 abbrev pub openedBlock : Schedule → ℕ → ℕ → List ℕ → ℕ → ℕ
 openedBlock u serial n c i = frameEngine u (tweak (purpose 0 n i) serial i) (word 8 (part c i))
 
@@ -81,23 +88,22 @@ accepted s serial a n c =
     (eqb (tagOf s serial a n (sum (blocks n) (openedBlock (turned qarma64 s) serial n c))) (word 8 (part c (blocks n))))
     false
 
--- "opening 2 to 6", in this order; else "the first bytes up to the message length", in the place of the first bytes of the output
+-- Document 01, "What a refused caller gets": "opening 2 to 6", in this order; else it writes the message
 unfoldable pub opening : ℕ → ℕ → ℕ → ℕ → List ℕ → List ℕ → List ℕ → Answer × List ℕ
 opening w0 k0 serial n a c out =
     limited serial a n out
     (ifYes (eqb (length c) (sealedSize n))
-    (ifLe n (length out)
-    (ifYes (accepted (keySchedule 4 w0 k0) serial a n c)
-    (Wrote n, openedMessage (turned qarma64 (keySchedule 4 w0 k0)) serial n c ++ drop n out)
-    (Refused Disagrees, out))
-    (Refused Room, out))
+    (roomFor n out
+    (ifYes (accepted (keySchedule qarma64 w0 k0) serial a n c)
+    (written (openedMessage (turned qarma64 (keySchedule qarma64 w0 k0)) serial n c) out)
+    (Refused Disagrees, out)))
     (Refused SealedSize, out))
 
 -- Demand 2 for frames (docs/CONTRACTS.md): inputs inside the limits
-pub record Within (x : ℕ) (a : List ℕ) (n : ℕ) : Type 0 where
-  pub message : n ≤ 1024
-  pub label : length a ≤ 32
-  pub serial : x ≤ 2 ^ 44 - 1
+pub record Within (number : ℕ) (a : List ℕ) (n : ℕ) : Type 0 where
+  pub message : n ≤ messageMax
+  pub label : length a ≤ labelMax
+  pub serial : number ≤ serialMax
 
 -- Demand 2 (docs/CONTRACTS.md): sealing some message of the stated length under that key, serial and label produces it: a message of n bytes whose sealed bytes are c
 pub record SealedFrom (s : Schedule) (serial : ℕ) (a : List ℕ) (n : ℕ) (c : List ℕ) : Type 0 where

@@ -8,17 +8,26 @@ ghost use Prim.Native.Nat.{_+_, _*_, _/_, _^_, _<_, _≤_};
 ghost use mathlib.Core.List.{_++_};
 ghost use lib.ListN.{length, getD, take, drop};
 ghost use Rattle.words.specs.Digits.{word, laid};
-ghost use Rattle.cells.specs.Lists.{sum, upto};
+ghost use Rattle.words.specs.Lists.{sum, upto};
 ghost use Rattle.cipher.specs.Engine.{ScheduleBelow, turned};
 ghost use Rattle.frame.specs.Blocks.{blocks, filled, block, tweak, purpose, tagPurpose};
 ghost use Rattle.frame.specs.Frames.{frameEngine, sealedBlock, labelSum, tagOf, sealedSize, sealedBytes, sealing, openedBlock, fillRight, accepted, opening};
 ghost use Rattle.cells.specs.Qarma64.{qarma64};
 
+// The limits of a frame: bytes of a message, bytes of a label, and the highest serial.
 const MESSAGE_MAX: usize = 1024;
 
 const LABEL_MAX: usize = 32;
 
 const SERIAL_MAX: u64 = 0xFFFFFFFFFFF;
+
+// How many sealed bytes a message of n bytes has.
+pub fn sealed_size(n: usize) -> usize
+    requires { ⌜ n < 2 ^ 60 ⌝ }
+    ensures { λ r. ⌜ r ≡ sealedSize n ⌝ }
+{
+    (n + 7) / 8 * 8 + 8
+}
 
 // A part of 1 to 8 bytes as a word, filled if it is short.
 fn fill(part: &[u8]) -> u64
@@ -79,7 +88,7 @@ fn engine(s: Schedule, t: u64, p: u64) -> u64
     requires { ⌜ ScheduleBelow 4 s ⌝ }
     ensures { λ r. ⌜ r ≡ frameEngine s t p ⌝ }
 {
-    s.run(1, 7, Cells::of(t), Cells::of(p)).word()
+    s.engine(1, 7, Cells::of(t), Cells::of(p)).word()
 }
 
 // Block i of some bytes enciphered, by the purpose of a whole one.
@@ -108,7 +117,7 @@ fn sum_blocks(bytes: &[u8]) -> u64
 
 // The sum of the enciphered blocks of a label.
 fn sum_label(s: Schedule, serial: u64, label: &[u8]) -> u64
-    requires { ⌜ ScheduleBelow 4 s × ((serial < 2 ^ 44) × (length (now label) ≤ 1024)) ⌝ }
+    requires { ⌜ ScheduleBelow 4 s × ((serial < 2 ^ 44) × (length (now label) ≤ 32)) ⌝ }
     ensures { λ r. ⌜ r ≡ labelSum s serial (now (label .entry)) ⌝ }
 {
     let n = (label.len() + 7) / 8;
@@ -123,7 +132,7 @@ fn sum_label(s: Schedule, serial: u64, label: &[u8]) -> u64
 
 // The tag of a message of n bytes, from the sum of its blocks.
 fn tag(s: Schedule, serial: u64, label: &[u8], n: usize, message_sum: u64) -> u64
-    requires { ⌜ ScheduleBelow 4 s × ((serial < 2 ^ 44) × ((length (now label) ≤ 1024) × (n ≤ 1024))) ⌝ }
+    requires { ⌜ ScheduleBelow 4 s × ((serial < 2 ^ 44) × ((length (now label) ≤ 32) × (n ≤ 1024))) ⌝ }
     ensures { λ r. ⌜ r ≡ tagOf s serial (now (label .entry)) n «message_sum» ⌝ }
 {
     let index = (n + 7) / 8;
@@ -148,7 +157,7 @@ fn put_blocks(s: Schedule, serial: u64, message: &[u8], out: &mut [u8])
 
 // Writes the sealed bytes of a message into the first bytes of out.
 fn put_sealed(s: Schedule, serial: u64, label: &[u8], message: &[u8], out: &mut [u8])
-    requires { ⌜ (ScheduleBelow 4 s × (serial < 2 ^ 44)) × ((length (now label) ≤ 1024) × ((length (now message) ≤ 1024) × (sealedSize (length (now message)) ≤ length (now out)))) ⌝ }
+    requires { ⌜ (ScheduleBelow 4 s × (serial < 2 ^ 44)) × ((length (now label) ≤ 32) × ((length (now message) ≤ 1024) × (sealedSize (length (now message)) ≤ length (now out)))) ⌝ }
     ensures { λ _. ⌜ now (out .exit) ≡ sealedBytes s serial (now (label .entry)) (now (message .entry)) ++ drop (sealedSize (length (now (message .entry)))) (now (out .entry)) ⌝ }
 {
     put_blocks(s, serial, message, out);
@@ -246,7 +255,7 @@ pub fn seal(w0: u64, k0: u64, serial: u64, label: &[u8], message: &[u8], out: &m
     if SERIAL_MAX < serial {
         return Answer::Refused(Refusal::Serial);
     }
-    let size = (message.len() + 7) / 8 * 8 + 8;
+    let size = sealed_size(message.len());
     if out.len() < size {
         return Answer::Refused(Refusal::Room);
     }
@@ -275,8 +284,7 @@ pub fn open(
     if SERIAL_MAX < serial {
         return Answer::Refused(Refusal::Serial);
     }
-    let size = (n + 7) / 8 * 8 + 8;
-    if sealed.len() != size {
+    if sealed.len() != sealed_size(n) {
         return Answer::Refused(Refusal::SealedSize);
     }
     if out.len() < n {

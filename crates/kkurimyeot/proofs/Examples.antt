@@ -3,7 +3,7 @@ use mathlib.Core.Path.{_≡_, refl}
 use mathlib.Core.List.{List, map}
 use Prim.Native.Nat.{ℕ}
 use Rattle.words.specs.Cases.{ifLe}
-use Rattle.cells.specs.Lists.{upto}
+use Rattle.words.specs.Lists.{upto}
 use Rattle.cells.specs.Cells.{cut, joined, picked, onSeven, added, mixedBy}
 use Rattle.cipher.specs.Engine.{turned}
 use Rattle.cipher.specs.Words.{wordsOf}

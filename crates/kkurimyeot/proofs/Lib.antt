@@ -1,3 +1,4 @@
+pub mod Returns
 pub mod Examples
 pub mod Demands
 pub mod Outcomes

@@ -1,9 +1,9 @@
 -- Document 01, "Examples on both sides": the examples marked P, as one table. A row has what the definitions give, and what the paper says.
 use mathlib.Core.List.{List, [], _∷_}
 use Prim.Native.Nat.{ℕ}
-use Rattle.cells.specs.Cells.{cut, joined, shuffled, mixedColumn, stepped}
-use Rattle.cells.specs.Qarma64.{qarma64, entries, bitStepped}
-use Rattle.cipher.specs.Engine.{outer}
+use Rattle.cells.specs.Cells.{cut, joined, shuffled, mixedColumn, bitStepped, stepped}
+use Rattle.cells.specs.Qarma64.{qarma64, entries}
+use Rattle.cipher.specs.Engine.{w1From}
 use Rattle.cipher.specs.Words.{turnedWords}
 use Rattle.frame.specs.Blocks.{block, tweak}
 use Rattle.kkurimyeot.specs.Calls.{fourWords}
@@ -19,17 +19,17 @@ turnedFour a b c d = fourWords (turnedWords record { w0 = a; w1 = b; k0 = c; k1 
 unfoldable pub table : List (List ℕ × List ℕ)
 table =
     -- P1 to P3, w1 from w0
-    (outer 64 1 ∷ [], 0x8000000000000000 ∷ [])
-    ∷ (outer 64 0x8000000000000000 ∷ [], 0x4000000000000001 ∷ [])
-    ∷ (outer 64 0xFFFFFFFFFFFFFFFF ∷ [], 0xFFFFFFFFFFFFFFFE ∷ [])
+    (w1From 64 1 ∷ [], 0x8000000000000000 ∷ [])
+    ∷ (w1From 64 0x8000000000000000 ∷ [], 0x4000000000000001 ∷ [])
+    ∷ (w1From 64 0xFFFFFFFFFFFFFFFF ∷ [], 0xFFFFFFFFFFFFFFFE ∷ [])
     -- P4, shuffle
     ∷ (joined 4 (shuffled (cut 4 0x0123456789ABCDEF)) ∷ [], 0x0B6DA1C75E38F492 ∷ [])
     -- P5 and P6, mix
     ∷ (mixedColumn 4 entries (1 ∷ 0 ∷ 0 ∷ 0 ∷ []), 0 ∷ 2 ∷ 4 ∷ 2 ∷ [])
     ∷ (mixedColumn 4 entries (0 ∷ 2 ∷ 4 ∷ 2 ∷ []), 1 ∷ 0 ∷ 0 ∷ 0 ∷ [])
     -- P7 and P8, the bit step on one cell
-    ∷ (bitStepped 1 ∷ [], 8 ∷ [])
-    ∷ (bitStepped 3 ∷ [], 1 ∷ [])
+    ∷ (bitStepped 4 1 1 ∷ [], 8 ∷ [])
+    ∷ (bitStepped 4 1 3 ∷ [], 1 ∷ [])
     -- P9 and P10, tweak step
     ∷ (steppedWord 0x0010000000000000, 0x0000001000000000 ∷ [])
     ∷ (steppedWord 0x0000001000000000, 0x8000000000000000 ∷ [])

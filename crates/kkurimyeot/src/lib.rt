@@ -1,5 +1,5 @@
 // The calls of the C interface: numbers and byte slices in, one number out.
-use cipher::Block;
+use cipher::BlockAnswer;
 use cipher::Words;
 use line::Reading;
 use refusals::Answer;
@@ -10,12 +10,12 @@ ghost use lib.ListN.{length};
 ghost use Rattle.cipher.specs.Words.{keyWords, turnedWords, engineCall, encipherCall, decipherCall};
 ghost use Rattle.frame.specs.Frames.{sealing, opening};
 ghost use Rattle.line.specs.Calls.{writing, openingLine};
-ghost use Rattle.kkurimyeot.specs.Calls.{given, blockGiven, fourWords, returning, readingGiven, GivesReading};
+ghost use Rattle.kkurimyeot.specs.Calls.{wordsGiven, blockGiven, fourWords, returning, readingGiven, GivesReading};
 
 // Words to the first bytes of out, or refusal 5.
 fn give(list: &[u64], out: &mut [u8]) -> Answer
     requires { ⌜ length (now list) ≤ 5 ⌝ }
-    ensures { λ r. ⌜ (r, now (out .exit)) ≡ given (now (list .entry)) (now (out .entry)) ⌝ }
+    ensures { λ r. ⌜ (r, now (out .exit)) ≡ wordsGiven (now (list .entry)) (now (out .entry)) ⌝ }
 {
     let size = list.len() * 8;
     if out.len() < size {
@@ -26,21 +26,21 @@ fn give(list: &[u64], out: &mut [u8]) -> Answer
 }
 
 // What a block call answers, through C.
-fn give_block(answer: Block, out: &mut [u8]) -> u64
+fn give_block(answer: BlockAnswer, out: &mut [u8]) -> u64
     ensures { λ r. ⌜ (r, now (out .exit)) ≡ returning (blockGiven answer (now (out .entry))) ⌝ }
 {
     match answer {
-        Block::Word(w) => {
+        BlockAnswer::Word(w) => {
             let one = [w];
             refusals::returned(give(&one, out))
         }
-        Block::Refused(r) => refusals::returned(Answer::Refused(r)),
+        BlockAnswer::Refused(r) => refusals::returned(Answer::Refused(r)),
     }
 }
 
 // The four words of a schedule, through C.
 fn give_words(s: Words, out: &mut [u8]) -> u64
-    ensures { λ r. ⌜ (r, now (out .exit)) ≡ returning (given (fourWords s) (now (out .entry))) ⌝ }
+    ensures { λ r. ⌜ (r, now (out .exit)) ≡ returning (wordsGiven (fourWords s) (now (out .entry))) ⌝ }
 {
     let four = [s.w0, s.w1, s.k0, s.k1];
     refusals::returned(give(&four, out))
@@ -49,7 +49,7 @@ fn give_words(s: Words, out: &mut [u8]) -> u64
 // The schedule of a key: w0, w1, k0, k1.
 #[no_mangle]
 pub extern "C" fn kk_schedule(w0: u64, k0: u64, out: &mut [u8]) -> u64
-    ensures { λ r. ⌜ (r, now (out .exit)) ≡ returning (given (fourWords (keyWords w0 k0)) (now (out .entry))) ⌝ }
+    ensures { λ r. ⌜ (r, now (out .exit)) ≡ returning (wordsGiven (fourWords (keyWords w0 k0)) (now (out .entry))) ⌝ }
 {
     give_words(cipher::key_words(w0, k0), out)
 }
@@ -57,7 +57,7 @@ pub extern "C" fn kk_schedule(w0: u64, k0: u64, out: &mut [u8]) -> u64
 // A schedule turned: w0, w1, k0, k1.
 #[no_mangle]
 pub extern "C" fn kk_turn(w0: u64, w1: u64, k0: u64, k1: u64, out: &mut [u8]) -> u64
-    ensures { λ r. ⌜ (r, now (out .exit)) ≡ returning (given (fourWords (turnedWords record { w0 = w0; w1 = w1; k0 = k0; k1 = k1 })) (now (out .entry))) ⌝ }
+    ensures { λ r. ⌜ (r, now (out .exit)) ≡ returning (wordsGiven (fourWords (turnedWords record { w0 = w0; w1 = w1; k0 = k0; k1 = k1 })) (now (out .entry))) ⌝ }
 {
     give_words(cipher::turn_words(Words { w0, w1, k0, k1 }), out)
 }
@@ -78,7 +78,7 @@ pub extern "C" fn kk_engine(
     ensures { λ r. ⌜ (r, now (out .exit)) ≡ returning (blockGiven (engineCall number rounds record { w0 = w0; w1 = w1; k0 = k0; k1 = k1 } tweak block) (now (out .entry))) ⌝ }
 {
     give_block(
-        cipher::run(number, rounds, Words { w0, w1, k0, k1 }, tweak, block),
+        cipher::engine(number, rounds, Words { w0, w1, k0, k1 }, tweak, block),
         out,
     )
 }

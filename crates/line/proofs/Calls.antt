@@ -8,13 +8,16 @@ use lib.Seq.{take-at}
 use Rattle.refusals.specs.declared.Answer.{Answer}
 use Rattle.refusals.specs.declared.Answer.the-variants.{Wrote, Refused}
 use Rattle.refusals.specs.declared.Refusal.{Refusal}
+use Rattle.refusals.specs.Refusals.{giving}
 use Rattle.refusals.proofs.Answers.{not-both}
+use Rattle.cells.specs.Qarma64.{qarma64}
 use Rattle.cipher.specs.Engine.{keySchedule}
 use Rattle.frame.specs.Frames.{sealedSize, sealedBytes, sealing, Within}
 use Rattle.frame.proofs.Opening.{sealed-length}
 use Rattle.frame.proofs.Limits.{goes-on, Refuses, limits, within, refused}
 use Rattle.frame.proofs.Demands.{seals}
-use Rattle.line.specs.Calls.{lineGiven, writing}
+use Rattle.line.specs.Line.{lineOf}
+use Rattle.line.specs.Calls.{frameOf, writing}
 
 module _ (w0 k0 serial : ℕ) (a m : List ℕ) where
   -- what the limits refuse, sealing and writing refuse alike
@@ -30,7 +33,7 @@ module _ (w0 k0 serial : ℕ) (a m : List ℕ) where
   pub record Wrote-sealed (d : List ℕ) (k : ℕ) (o : List ℕ) : Type 0 where
     pub within : Within serial a (length m)
     pub size : k ≡ sealedSize (length m)
-    pub bytes : take k o ≡ sealedBytes (keySchedule 4 w0 k0) serial a m
+    pub bytes : take k o ≡ sealedBytes (keySchedule qarma64 w0 k0) serial a m
 
   pub sealing-wrote : (d : List ℕ) → 1032 ≤ length d → (k : ℕ) (o : List ℕ) (r : Answer) → r ≡ Wrote k → (r, o) ≡ sealing w0 k0 serial a m d → Wrote-sealed d k o
   sealing-wrote d h k o r q s =
@@ -45,7 +48,7 @@ module _ (w0 k0 serial : ℕ) (a m : List ℕ) where
             record {
               within = w;
               size = size;
-              bytes = ap₂ take size (ap (λ (x : Answer × List ℕ). x .1) made) ∙ take-at (sealedBytes (keySchedule 4 w0 k0) serial a m) _ (sealedSize (length m)) (sealed-length (keySchedule 4 w0 k0) serial a m);
+              bytes = ap₂ take size (ap (λ (x : Answer × List ℕ). x .1) made) ∙ take-at (sealedBytes (keySchedule qarma64 w0 k0) serial a m) _ (sealedSize (length m)) (sealed-length (keySchedule qarma64 w0 k0) serial a m);
             }
       ]
 
@@ -62,6 +65,6 @@ module _ (w0 k0 serial : ℕ) (a m : List ℕ) where
       ]
 
   -- what was sealed is written, if there is room
-  pub writes : (out : List ℕ) → Within serial a (length m) → lineGiven serial a (length m) (sealedBytes (keySchedule 4 w0 k0) serial a m) out ≡ writing w0 k0 serial a m out
+  pub writes : (out : List ℕ) → Within serial a (length m) → giving (lineOf (frameOf serial a (length m) (sealedBytes (keySchedule qarma64 w0 k0) serial a m))) out ≡ writing w0 k0 serial a m out
   unfolding writing
   writes out h = goes-on serial a (length m) out _ h

@@ -1,6 +1,10 @@
 pub mod Shape
+pub mod Hex
+pub mod Good
 pub mod Written
 pub mod Places
+pub mod Ends
+pub mod Fields
 pub mod Writing
 pub mod Calls
 pub mod Bytes

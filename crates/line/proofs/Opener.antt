@@ -1,18 +1,20 @@
 -- What opening a line answers, from its reading.
-use Prim.Native.Nat.{ℕ, _+_, _*_, _^_, _≤_, _<_}
-use mathlib.Core.Path.{_≡_, refl, sym, ap, _∙_}
+use Prim.Native.Nat.{ℕ, _+_, _*_, _≤_, _<_}
+use mathlib.Core.Path.{_≡_, sym, ap, _∙_}
 use mathlib.Core.List.{List}
 use native.Mathlib.Omega.{arith}
-use lib.ListN.{length, getD}
+use lib.ListN.{length}
 use Rattle.refusals.specs.declared.Answer.{Answer}
 use Rattle.frame.specs.Frames.{sealedSize, opening}
 use Rattle.line.specs.Line.{Reads}
 use Rattle.line.specs.Reader.{numberAt, bytesAt, reading}
-use Rattle.line.specs.Calls.{openingAs, openingLine, refusedAs, FieldsRead}
+use Rattle.line.specs.Calls.{openingAs, openingLine}
+use Rattle.line.specs.Workings.{refusedAs, FieldsRead}
 use Rattle.line.specs.declared.Reading.{Reading}
 use Rattle.line.specs.declared.Reading.the-variants.{Fields, NotLine}
-use Rattle.line.proofs.Written.{num-below}
-use Rattle.line.proofs.Places.{reads-reading, Inside, fields-inside}
+use Rattle.line.proofs.Good.{num-below}
+use Rattle.line.proofs.Places.{reads-reading}
+use Rattle.line.proofs.Fields.{fields-inside}
 
 module _ (s : List ℕ) (r : Reading) (h : Reads s r) where
   read-is : (r′ : Reading) → r ≡ r′ → reading s ≡ r′

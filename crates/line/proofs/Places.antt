@@ -1,32 +1,31 @@
 -- The answer that is computed is the paper's, and the paper's answer is only that.
-use Prim.Native.Nat.{ℕ, zero, suc, _+_, _-_, _*_, _/_, _^_, _≤_, _<_, zero-le, suc-le-suc}
-use mathlib.Core.Path.{_≡_, refl, sym, ap, ap₂, _∙_, subst}
-use mathlib.Core.Logic.{_⊎_, inl, inr, ⊎-elim}
-use mathlib.Core.List.{List, [], _∷_, _++_, append-assoc, append-nil}
-use mathlib.Core.Bool.{Bool, true, false, cond, _&&_}
-use native.Mathlib.Nat.{le-of-suc-le-suc, not-suc-le-zero, le-refl, le-trans, lt-irrefl, not-le-of-lt, pow-le-pow-right, sub-zero, div-lt-iff-lt-mul}
+use Prim.Native.Nat.{ℕ, zero, suc, _+_, _-_, _*_, _≤_, _<_, zero-le}
+use mathlib.Core.Path.{_≡_, refl, sym, ap, _∙_, subst}
+use mathlib.Core.List.{List, _++_}
+use mathlib.Core.Bool.{Bool, true, false, cond}
+use native.Mathlib.Nat.{le-refl, lt-irrefl, not-le-of-lt}
 use native.Mathlib.Omega.{arith}
-use native.Mathlib.Numerals.{add-one}
-use lib.ListN.{length, getD, take, length-take, length-append, List·getD-eq-default, List·getD-append}
-use lib.Seq.{getD-take, take-append-le, take-all, getD-append-seam, take-append-seam, append-snoc, take-take}
-use lib.Dec.{lit<, ltb, leb, eqb}
-use borrow.Author.Tests.{lt-ltb, le-ltb, eq-eqb, ne-eqb, le-leb, lt-leb, leb-true, ltb-true, eqb-true, eqb-false, ltb-false}
+use lib.ListN.{length, getD, take, drop, take-append-drop, length-take}
+use lib.Seq.{getD-take, take-append-seam, take-take}
+use lib.Dec.{eqb}
+use borrow.Author.Tests.{le-ltb, eq-eqb, ne-eqb, eqb-true}
+use Rattle.words.proofs.Cases.{by-lt, by-eq, both, clash}
 use Rattle.line.specs.declared.Reading.{Reading}
 use Rattle.line.specs.declared.Reading.the-variants.{Fields, NotLine}
-use Rattle.line.proofs.Shape.{Shape, Whole, by-lt, by-eq, both, clash, end-far, start-shape, start-stands, start-label, start-message, start-end, fits-byte, fit, fit-parts, fitting, complete}
-use Rattle.line.proofs.Written.{whole-good, good-whole, good-digit, line-fields, serial-below}
-use Rattle.frame.specs.Frames.{sealedSize}
-use Rattle.line.specs.Line.{Frame, LineOf, lineOf, GoodLine, Begins, Place, wrong, short, fieldsOf, Reads, fields, refused}
-use Rattle.line.specs.Reader.{hexValue, numberAt, serialOf, labelLength, messageLength, endOf, stands, fits, first, place, good, reading}
+use Rattle.line.proofs.Shape.{Shape, end-far, start-shape, start-label, start-message, start-end, fits-byte, fit, fit-parts, fitting, complete}
+use Rattle.line.proofs.Good.{whole-good}
+use Rattle.line.proofs.Written.{good-whole, line-fields}
+use Rattle.line.specs.Line.{Frame, LineOf, GoodLine, Begins, Place, wrong, short, fieldsOf, Reads, fields, refused}
+use Rattle.line.specs.Reader.{serialOf, labelLength, messageLength, endOf, stands, fits, first, place, good, reading}
 
 -- ---- what begins a good line
 
-past-end : (i b e : ℕ) → 3 ≤ i → e < i → stands i b e ≡ false
+pub past-end : (i b e : ℕ) → 3 ≤ i → e < i → stands i b e ≡ false
 unfolding stands
 past-end i b e h l =
     simp (ne-eqb i 0 (λ q. omega arith), ne-eqb i 1 (λ q. omega arith), ne-eqb i 2 (λ q. omega arith), le-ltb i e (omega arith), ne-eqb i e (λ q. omega arith))
 
-shape-length : (p : List ℕ) → Shape p → length p ≤ endOf p + 1
+pub shape-length : (p : List ℕ) → Shape p → length p ≤ endOf p + 1
 shape-length p h =
     by-lt (endOf p + 1) (length p)
     (λ l.
@@ -63,7 +62,7 @@ first-is f (suc n) k = go (f k) refl (first-is f n (suc k))
         }
     go false e r = record { low = omega arith; high = omega arith; passed = λ j l u. absurd (not-le-of-lt u l); failed = λ l. e }
 
-place-is : (s : List ℕ) → First (fits s) (length s) 0 (place s)
+pub place-is : (s : List ℕ) → First (fits s) (length s) 0 (place s)
 unfolding place
 place-is s = first-is (fits s) (length s) 0
 
@@ -93,7 +92,7 @@ module _ (s : List ℕ) where
       let y : messageLength (take (k + 1) s) ≤ 1024 = rw (start-message s (k + 1) (omega arith), ← start-message s 20 (le-refl 20)) b in
       fits-byte s k e x y l (q ∙ sym (start-end s (k + 1) (omega arith)))
 
-fits-start : (s : List ℕ) (n i : ℕ) → i < n → fits (take n s) i ≡ fits s i
+pub fits-start : (s : List ℕ) (n i : ℕ) → i < n → fits (take n s) i ≡ fits s i
 unfolding fits
 fits-start s n i l = rw (take-take (i + 1) n s (omega arith), getD-take n s i 48)
 
@@ -119,7 +118,7 @@ module _ (s : List ℕ) where
   unfolding good
   good-line g = simp (eq-eqb (place s) (length s) (short-place (good-whole s g .shape)), eq-eqb (length s) (endOf s + 1) (good-whole s g .whole))
 
-  line-good : good s ≡ true → GoodLine s
+  pub line-good : good s ≡ true → GoodLine s
   unfolding good
   line-good e =
       let (a, b) = both (eqb (place s) (length s)) (eqb (length s) (endOf s + 1)) e in
@@ -153,6 +152,11 @@ module _ (s : List ℕ) where
   unfolding reading
   read-fields f l = let (a, b, c) = line-fields s f l in simp (good-line (f, l), a, b, c)
 
+  -- a line with a place is not good
+  placed-bad : (k : ℕ) → Place s k → GoodLine s → ⊥
+  placed-bad k (wrong l p q) g = q (drop (k + 1) s, subst GoodLine (sym (take-append-drop (k + 1) s)) g)
+  placed-bad k (short b n e) g = n g
+
   -- ---- by cases, as the code answers
 
   pub read-wrong : (k : ℕ) → k ≡ place s → k < length s → NotLine k ≡ reading s
@@ -179,126 +183,15 @@ module _ (s : List ℕ) where
       go true e = let (f, l) = line-good e in subst (Reads s) (read-fields f l) (fields f l)
       go false e =
           let n : GoodLine s → ⊥ = λ g. clash _ (good-line g) e in
-          subst (Reads s) (sym (bad-reading e)) (refused (place s) n (place-refused n))
+          subst (Reads s) (sym (bad-reading e)) (refused (place s) (place-refused n))
 
   pub reads-reading : (r : Reading) → Reads s r → r ≡ reading s
   reads-reading r (fields f l) = read-fields f l
-  reads-reading r (refused k n h) = go (good s) refl
+  reads-reading r (refused k h) = go (good s) refl
     where
       go : (t : Bool) → good s ≡ t → NotLine k ≡ reading s
-      go true e = absurd (n (line-good e))
+      go true e = absurd (placed-bad k h (line-good e))
       go false e = ap NotLine (refused-place k h) ∙ sym (bad-reading e)
-
--- ---- a long line: its first 2150 bytes decide
-
-shape-short : (s : List ℕ) → Shape s → length s ≤ 2149
-shape-short s h =
-    let m : (messageLength s + 7) / 8 ≤ 128 = le-of-suc-le-suc (div-lt-iff-lt-mul {k = 8} (lit< tt) .1 (omega (arith, h .message))) in
-    omega (arith, shape-length s h, h .label)
-
-not-true-false : (b : Bool) → (b ≡ true → ⊥) → b ≡ false
-not-true-false true n = absurd (n refl)
-not-true-false false n = refl
-
-first-only : (f : ℕ → Bool) (n m j : ℕ) → First f n 0 m → j < n → ((i : ℕ) → i < j → f i ≡ true) → f j ≡ false → m ≡ j
-first-only f n m j r l p q =
-    by-lt m j (λ u. absurd (clash _ (p m u) (r .failed (omega arith))))
-    (λ u. by-lt j m (λ v. absurd (clash _ (r .passed j zero-le v) q)) (λ v. omega arith))
-
-reading-bad : (s : List ℕ) → place s < length s → reading s ≡ NotLine (place s)
-unfolding reading good
-reading-bad s l = simp (ne-eqb (place s) (length s) (λ q. omega arith))
-
-place-early : (s : List ℕ) → 2150 ≤ length s → place s < 2150
-place-early s l =
-    by-lt (place s) 2150 (λ u. u)
-    (λ u.
-    let p : Shape (take 2150 s) =
-    fitting (take 2150 s)
-    (λ i v. let w : i < 2150 = omega (arith, length-take 2150 s) in fits-start s 2150 i w ∙ place-is s .passed i zero-le (omega arith))
-    in
-    absurd (not-le-of-lt (lit< {m = 2149} {n = 2150} tt) (omega (arith, shape-short (take 2150 s) p, length-take 2150 s))))
-
-pub long-line : (s : List ℕ) (n : ℕ) → 2150 ≤ n → reading (take n s) ≡ reading s
-long-line s n l =
-    by-lt n (length s)
-    (λ u.
-    let k : place s < 2150 = place-early s (omega arith) in
-    let v : place s < length (take n s) = omega (arith, length-take n s) in
-    let e : place (take n s) ≡ place s =
-    first-only (fits (take n s)) (length (take n s)) (place (take n s)) (place s) (place-is (take n s)) v
-    (λ i w. fits-start s n i (omega arith) ∙ place-is s .passed i zero-le w)
-    (fits-start s n (place s) (omega arith) ∙ place-is s .failed (omega arith))
-    in
-    reading-bad (take n s) (omega arith) ∙ ap NotLine e ∙ sym (reading-bad s (omega arith)))
-    (λ u. rw (take-all n s u))
-
--- a line of 2150 bytes or more is refused
-pub long-bad : (s : List ℕ) → 2150 ≤ length s → reading s ≡ NotLine (place s)
-long-bad s l = reading-bad s (omega (arith, place-early s l))
-
--- ---- what a caller learns of the fields: where the parts stand, all inside the line
-
--- ---- "Bytes after the 0A are refused at the first of them."
-
-pub after-end : (s : List ℕ) (b : ℕ) (t : List ℕ) → GoodLine s → reading (s ++ b ∷ t) ≡ NotLine (length s)
-after-end s b t g =
-    let u = s ++ b ∷ t in
-    let w = good-whole s g in
-    let size : length u ≡ length s + suc (length t) = length-append s (b ∷ t) in
-    let start : take (length s) u ≡ s = take-append-seam s (b ∷ t) in
-    let same : endOf s ≡ endOf u = ap endOf (sym start) ∙ start-end u (length s) (omega (arith, w .whole, end-far s)) in
-    let passed : (i : ℕ) → i < length s → fits u i ≡ true =
-    λ i l. sym (fits-start u (length s) i l) ∙ ap (λ (x : List ℕ). fits x i) start ∙ fit s (w .shape) i l in
-    let failed : fits u (length s) ≡ false =
-    not-true-false (fits u (length s)) (λ e. clash _ (fit-parts u (length s) e .2) (past-end (length s) _ (endOf u) (omega (arith, w .whole, end-far s)) (omega (arith, w .whole, same)))) in
-    let here : place u ≡ length s = first-only (fits u) (length u) (place u) (length s) (place-is u) (omega (arith, size)) passed failed in
-    reading-bad u (omega (arith, here, size)) ∙ ap NotLine here
-
-pub record Inside (s : List ℕ) (a b c d e : ℕ) : Type 0 where
-  pub serial : a < 2 ^ 44
-  pub label : b ≤ 32
-  pub message : c ≤ 1024
-  pub label-at : d ≡ 20
-  pub sealed-at : e ≡ 20 + 2 * b
-  pub size : length s ≡ e + 2 * sealedSize c + 1
-  pub digits : (i : ℕ) → 3 ≤ i → i + 1 < length s → hexValue (getD s i 48) < 16
-
-pub fields-inside : (s : List ℕ) (a b c d e : ℕ) → reading s ≡ Fields a b c d e → Inside s a b c d e
-unfolding reading
-fields-inside s a b c d e h = go (good s) refl h
-  where
-    go : (t : Bool) → good s ≡ t → cond t (Fields (serialOf s) (labelLength s) (messageLength s) 20 (20 + 2 * labelLength s)) (NotLine (place s)) ≡ Fields a b c d e
-        → Inside s a b c d e
-    go false q p = let z : _≡_ {A = ℕ} 0 1 = cc in absurd (lt-irrefl 0 (omega arith))
-    go true q p =
-        let w : Whole s = good-whole s (line-good s q) in
-        let x : serialOf s ≡ a = cc in
-        let y : labelLength s ≡ b = cc in
-        let z : messageLength s ≡ c = cc in
-        let u : 20 ≡ d = cc in
-        let v : 20 + 2 * labelLength s ≡ e = cc in
-        record {
-          serial = rw x at (serial-below s w);
-          label = rw y at (w .shape .label);
-          message = rw z at (w .shape .message);
-          label-at = sym u;
-          sealed-at = omega arith;
-          size = rw (← z) (omega (arith, w .whole));
-          digits = λ i l h. good-digit s w i l (omega (arith, w .whole));
-        }
-
--- a place is small: no good line is longer than 2149 bytes
-pub place-small : (s : List ℕ) → place s < 2150
-place-small s = by-lt (length s) 2150 (λ l. omega (arith, place-is s .high)) (place-early s)
-
-pub bad-small : (s : List ℕ) (k : ℕ) → reading s ≡ NotLine k → k < 2150
-unfolding reading
-bad-small s k h = go (good s) h
-  where
-    go : (t : Bool) → cond t (Fields (serialOf s) (labelLength s) (messageLength s) 20 (20 + 2 * labelLength s)) (NotLine (place s)) ≡ NotLine k → k < 2150
-    go true p = let z : _≡_ {A = ℕ} 0 1 = cc in absurd (lt-irrefl 0 (omega arith))
-    go false p = let e : place s ≡ k = cc in rw e at (place-small s)
 
 -- two answers that the paper allows are one
 pub reads-one : (s : List ℕ) (r r′ : Reading) → Reads s r → Reads s r′ → r ≡ r′

@@ -1,20 +1,18 @@
 -- The shape of a line, byte by byte: each start of it has the shape, and what has the shape can be completed.
-use Prim.Native.Nat.{ℕ, zero, suc, _+_, _-_, _*_, _/_, _^_, _≤_, _<_, zero-le, suc-le-suc}
-use mathlib.Core.Path.{_≡_, refl, sym, ap, ap₂, _∙_, subst}
-use mathlib.Core.Logic.{_⊎_, inl, inr, ⊎-elim}
-use mathlib.Core.List.{List, [], _∷_, _++_, append-assoc, append-nil}
-use mathlib.Core.Bool.{Bool, true, false, cond, _&&_}
-use native.Mathlib.Nat.{le-of-suc-le-suc, not-suc-le-zero, le-refl, le-trans, lt-irrefl, not-le-of-lt, pow-le-pow-right, sub-zero, div-lt-iff-lt-mul}
+use Prim.Native.Nat.{ℕ, zero, suc, _+_, _-_, _*_, _^_, _≤_, _<_, zero-le}
+use mathlib.Core.Path.{_≡_, refl, sym, ap, ap₂, _∙_}
+use mathlib.Core.List.{List, [], _∷_, _++_, append-nil}
+use mathlib.Core.Bool.{Bool, true, false, cond}
+use native.Mathlib.Nat.{le-of-suc-le-suc, not-suc-le-zero, le-refl, le-trans, pow-le-pow-right}
 use native.Mathlib.Omega.{arith}
 use native.Mathlib.Numerals.{add-one}
 use lib.ListN.{length, getD, take, length-take, length-append, List·getD-eq-default, List·getD-append}
-use lib.Seq.{getD-take, take-append-le, take-all, getD-append-seam, take-append-seam, append-snoc, take-take}
+use lib.Seq.{getD-take, take-all, getD-append-seam, append-snoc}
 use lib.Dec.{lit<, ltb, leb, eqb}
-use borrow.Author.Tests.{lt-ltb, le-ltb, eq-eqb, ne-eqb, le-leb, lt-leb, leb-true, ltb-true, eqb-true, eqb-false, ltb-false}
-use Rattle.line.specs.declared.Reading.{Reading}
-use Rattle.line.specs.declared.Reading.the-variants.{Fields, NotLine}
+use borrow.Author.Tests.{lt-ltb, le-ltb, eq-eqb, ne-eqb, le-leb, lt-leb, leb-true, ltb-true}
+use Rattle.words.proofs.Cases.{by-eq, by-lt, all-three}
 use Rattle.frame.specs.Frames.{sealedSize}
-use Rattle.line.specs.Reader.{hexValue, numberAt, serialOf, labelLength, messageLength, endOf, stands, fits, first, place, good, reading}
+use Rattle.line.specs.Reader.{hexValue, numberAt, labelLength, messageLength, endOf, stands, fits}
 
 -- every byte may stand where it stands, and the lengths are inside the limits
 pub record Shape (s : List ℕ) : Type 0 where
@@ -79,34 +77,6 @@ module _ (s t : List ℕ) where
   unfolding numberAt
   num-grows a zero h = omega arith
   num-grows a (suc n) h = omega (arith, num-grows a n h, h (a + n))
-
--- ---- cases
-
-pub by-lt : {C : Type 0} (i n : ℕ) → (i < n → C) → (n ≤ i → C) → C
-by-lt {C} i n f g = go (ltb i n) refl
-  where
-    go : (t : Bool) → ltb i n ≡ t → C
-    go true e = f (ltb-true i n e)
-    go false e = g (ltb-false i n e)
-
-pub by-eq : {C : Type 0} (i n : ℕ) → (i ≡ n → C) → ((i ≡ n → ⊥) → C) → C
-by-eq {C} i n f g = go (eqb i n) refl
-  where
-    go : (t : Bool) → eqb i n ≡ t → C
-    go true e = f (eqb-true i n e)
-    go false e = g (eqb-false i n e)
-
-pub clash : (b : Bool) → b ≡ true → b ≡ false → ⊥
-clash b p q = let z : _≡_ {A = ℕ} 0 1 = cc in omega arith
-
-pub both : (a b : Bool) → a && b ≡ true → (a ≡ true) × (b ≡ true)
-both true b e = (refl, e)
-both false b e = (e, cc)
-
-all-three : (a b c : Bool) → a && b && c ≡ true → (a ≡ true) × (b ≡ true) × (c ≡ true)
-all-three true true c e = (refl, refl, e)
-all-three true false c e = (refl, e, cc)
-all-three false b c e = (e, cc, cc)
 
 -- ---- `fits`, test by test
 

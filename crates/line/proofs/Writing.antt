@@ -1,17 +1,17 @@
 -- What is written of a line, part by part.
-use Prim.Native.Nat.{ℕ, zero, suc, _+_, _-_, _*_, _/_, _%_, _^_, _≤_, _<_}
+use Prim.Native.Nat.{ℕ, zero, suc, _+_, _-_, _*_, _/_, _%_, _≤_, _<_}
 use mathlib.Core.Path.{_≡_, refl, sym, ap, _∙_}
 use mathlib.Core.List.{List, [], _∷_, _++_, append-assoc, append-nil}
 use native.Mathlib.Nat.{le-refl}
 use native.Mathlib.Numerals.{add-one, sub-one}
 use native.Mathlib.Omega.{arith}
 use borrow.Rule.Slice.PartMut.{putMid}
-use lib.ListN.{length, getD, take, drop, set, length-append, length-take, length-drop, drop-of-length-le}
+use lib.ListN.{length, getD, take, drop, set, length-append, length-drop, drop-of-length-le}
 use lib.Seq.{drop-cons, lt-length-set, getD-set-same, drop-set-lt, take-suc, take-all, length-take-le, set-at}
-use Rattle.words.proofs.Laws.{mid-turn}
+use Rattle.words.proofs.Laws.{mid-turn, middle}
 use Rattle.line.specs.Line.{hexDigit, hexDigits, hex, Frame, lineOf}
 use Rattle.line.specs.Calls.{frameOf}
-use Rattle.line.proofs.Written.{length-hex, length-hex-digits, hex-more}
+use Rattle.line.proofs.Hex.{length-hex, length-hex-digits, hex-more}
 
 -- the last digit of x goes to i - 1
 pub digits-turn : (i x : ℕ) (out : List ℕ) → 0 < i → i ≤ length out
@@ -19,10 +19,6 @@ pub digits-turn : (i x : ℕ) (out : List ℕ) → 0 < i → i ≤ length out
 digits-turn zero x out h k = absurd (omega arith)
 digits-turn (suc i) x out h k =
     rw (sub-one, hex-more i x, append-assoc, drop-cons (set out i (hexDigit (x % 16))) i 0 (lt-length-set out i _ k), getD-set-same out i _ 0 k, drop-set-lt (suc i) out i _ (le-refl (suc i)))
-
--- k bytes from the middle of a list
-pub middle : (a k e : ℕ) (l : List ℕ) → a + k ≡ e → e ≤ length l → length (take (e - a) (drop a l)) ≡ k
-middle a k e l h f = simp (length-take, length-drop) (omega arith)
 
 hex-append : (l r : List ℕ) → hex (l ++ r) ≡ hex l ++ hex r
 unfolding hex

@@ -1,3 +1,4 @@
 pub mod Line
 pub mod Reader
 pub mod Calls
+pub mod Workings

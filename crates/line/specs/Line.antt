@@ -1,12 +1,15 @@
 -- Document 01, "The frame line": what a good line is, what begins one, the place in refusal 7, and what a reader answers.
-use Prim.Native.Nat.{ℕ, _+_, _*_, _^_, _≤_, _<_}
+use Prim.Native.Nat.{ℕ, _+_, _*_, _<_}
 use mathlib.Core.Path.{_≡_}
 use mathlib.Core.List.{List, [], _∷_, _++_, map}
 use mathlib.Core.Bool.{cond}
 use lib.ListN.{length, take}
 use lib.Dec.{ltb}
 use Rattle.words.specs.Digits.{digits, Digits}
-use Rattle.frame.specs.Frames.{sealedSize}
+use Rattle.refusals.specs.declared.Answer.{Answer}
+use Rattle.refusals.specs.declared.Answer.the-variants.{Refused}
+use Rattle.refusals.specs.declared.Refusal.the-variants.{Line}
+use Rattle.frame.specs.Frames.{sealedSize, Within}
 use Rattle.line.specs.declared.Reading.{Reading}
 use Rattle.line.specs.declared.Reading.the-variants.{Fields, NotLine}
 
@@ -30,11 +33,9 @@ pub record Frame : Type 0 where
   pub messageLength : ℕ
   pub sealed : List ℕ
 
--- "its lengths inside the limits and its sealed bytes as long as the message length calls for"; a serial below 2 ^ 44 is "6 bytes with the top digit 0"
+-- "its lengths inside the limits and its sealed bytes as long as the message length calls for"; a serial within them is "6 bytes with the top digit 0"
 pub record Limits (f : Frame) : Type 0 where
-  pub serial : f .serial < 2 ^ 44
-  pub label : length (f .label) ≤ 32
-  pub message : f .messageLength ≤ 1024
+  pub within : Within (f .serial) (f .label) (f .messageLength)
   pub sealed : length (f .sealed) ≡ sealedSize (f .messageLength)
   pub label-bytes : Digits 8 (f .label)
   pub sealed-bytes : Digits 8 (f .sealed)
@@ -58,16 +59,23 @@ GoodLine s = (f : Frame) × LineOf s f
 abbrev pub Begins : List ℕ → Type 0
 Begins p = (q : List ℕ) × GoodLine (p ++ q)
 
--- "The place in 7 is the smallest k such that the first k+1 bytes begin no good line; if the bytes are a good line cut short, it is their count."
+-- Document 01, "What a refused caller gets": "The place in 7 is the smallest k such that the first k+1 bytes begin no good line; if the bytes are a good line cut short, it is their count."
 pub data Place (s : List ℕ) (k : ℕ) : Type 0 where
   wrong : k < length s → ((j : ℕ) → j < k → Begins (take (j + 1) s)) → (Begins (take (k + 1) s) → ⊥) → Place s k
   short : Begins s → (GoodLine s → ⊥) → k ≡ length s → Place s k
 
 -- "the fields and their places": two digits a byte, label and sealed bytes stand behind the twenty digits of version, serial and lengths
+abbrev pub placed : ℕ → ℕ → ℕ → Reading
+placed serial l n = Fields serial l n 20 (20 + 2 * l)
+
 abbrev pub fieldsOf : Frame → Reading
-fieldsOf f = Fields (f .serial) (length (f .label)) (f .messageLength) 20 (20 + 2 * length (f .label))
+fieldsOf f = placed (f .serial) (length (f .label)) (f .messageLength)
 
 -- "A reading answer either carries the fields and their places or the refusal and its place"
 pub data Reads (s : List ℕ) : Reading → Type 0 where
   fields : (f : Frame) → LineOf s f → Reads s (fieldsOf f)
-  refused : (k : ℕ) → (GoodLine s → ⊥) → Place s k → Reads s (NotLine k)
+  refused : (k : ℕ) → Place s k → Reads s (NotLine k)
+
+-- refusal 7 and its place, which a reading answer without fields stands for
+abbrev pub refusedAt : ℕ → Answer
+refusedAt k = Refused (Line k)

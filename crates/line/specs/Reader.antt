@@ -5,14 +5,15 @@ use mathlib.Core.Bool.{Bool, cond, _&&_}
 use lib.ListN.{length, getD, take}
 use lib.Dec.{ltb, leb, eqb}
 use Rattle.line.specs.declared.Reading.{Reading}
-use Rattle.line.specs.declared.Reading.the-variants.{Fields, NotLine}
-use Rattle.frame.specs.Frames.{sealedSize}
+use Rattle.line.specs.declared.Reading.the-variants.{NotLine}
+use Rattle.line.specs.Line.{placed}
+use Rattle.frame.specs.Frames.{sealedSize, labelMax, messageMax}
 
 -- the value of a lowercase hexadecimal digit, '0' to '9' and 'a' to 'f'; 16 for any other byte
 unfoldable pub hexValue : ℕ → ℕ
 hexValue b = cond (ltb b 48) 16 (cond (ltb b 58) (b - 48) (cond (ltb b 97) 16 (cond (ltb b 103) (b - 87) 16)))
 
--- the number of the n digits from place a on; a digit past the end counts as '0', byte 48
+-- the number of the n digits from place a on; a digit past the end counts as '0', byte 48. It is the word of their values (`number-word`, `proofs/Bytes.antt`)
 unfoldable pub numberAt : List ℕ → ℕ → ℕ → ℕ
 numberAt s a zero = 0
 numberAt s a (suc n) = numberAt s a n * 16 + hexValue (getD s (a + n) 48)
@@ -46,8 +47,8 @@ stands i b e =
 -- may byte i stand there, by the bytes up to it?
 unfoldable pub fits : List ℕ → ℕ → Bool
 fits s i =
-    leb (labelLength (take (i + 1) s)) 32
-    && leb (messageLength (take (i + 1) s)) 1024
+    leb (labelLength (take (i + 1) s)) labelMax
+    && leb (messageLength (take (i + 1) s)) messageMax
     && stands i (getD s i 48) (endOf (take (i + 1) s))
 
 -- the first of the n numbers from k on that fails the test, or k + n
@@ -65,4 +66,4 @@ good s = eqb (place s) (length s) && eqb (length s) (endOf s + 1)
 
 -- the fields and their places, or the place
 unfoldable pub reading : List ℕ → Reading
-reading s = cond (good s) (Fields (serialOf s) (labelLength s) (messageLength s) 20 (20 + 2 * labelLength s)) (NotLine (place s))
+reading s = cond (good s) (placed (serialOf s) (labelLength s) (messageLength s)) (NotLine (place s))

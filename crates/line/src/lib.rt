@@ -5,10 +5,12 @@ ghost use mathlib.Core.Path.{_≡_};
 ghost use mathlib.Core.List.{_++_};
 ghost use Prim.Native.Nat.{ℕ, _+_, _*_, _^_, _<_, _≤_, min};
 ghost use lib.ListN.{length, getD, drop};
+ghost use Rattle.refusals.specs.Refusals.{giving};
 ghost use Rattle.frame.specs.Frames.{sealedSize, opening};
 ghost use Rattle.line.specs.Line.{Reads, hexDigit, hexDigits, hex, lineOf};
 ghost use Rattle.line.specs.Reader.{hexValue, numberAt, labelLength, messageLength, endOf, bytesAt, stands, fits, place};
-ghost use Rattle.line.specs.Calls.{frameOf, lineGiven, writing, FieldsRead, refusedAs, openingLine};
+ghost use Rattle.line.specs.Calls.{frameOf, writing, openingLine};
+ghost use Rattle.line.specs.Workings.{lineSize, FieldsRead, refusedAs};
 
 pub enum Reading {
     // The fields of a good line, and where its label and its sealed bytes begin.
@@ -52,7 +54,7 @@ pub fn digit_at(s: &[u8], i: usize) -> u64
 }
 
 // The number of the n digits from place a on.
-fn number(s: &[u8], a: usize, n: usize) -> u64
+fn number_at(s: &[u8], a: usize, n: usize) -> u64
     requires { ⌜ (a ≤ 2 ^ 32) × (n ≤ 12) ⌝ }
     ensures { λ r. ⌜ (r ≡ numberAt (now (s .entry)) a n) × (r < 2 ^ 49) ⌝ }
 {
@@ -69,21 +71,21 @@ fn number(s: &[u8], a: usize, n: usize) -> u64
 fn label_length(s: &[u8]) -> usize
     ensures { λ r. ⌜ (r ≡ labelLength (now (s .entry))) × (r < 2 ^ 49) ⌝ }
 {
-    number(s, 14, 2) as usize
+    number_at(s, 14, 2) as usize
 }
 
 // The message length that a line says.
 fn message_length(s: &[u8]) -> usize
     ensures { λ r. ⌜ (r ≡ messageLength (now (s .entry))) × (r < 2 ^ 49) ⌝ }
 {
-    number(s, 16, 4) as usize
+    number_at(s, 16, 4) as usize
 }
 
 // Where the 0A stands.
 fn end_of(s: &[u8]) -> usize
     ensures { λ r. ⌜ (r ≡ endOf (now (s .entry))) × (r < 2 ^ 52) ⌝ }
 {
-    20 + 2 * (label_length(s) + (message_length(s) + 7) / 8 * 8 + 8)
+    20 + 2 * (label_length(s) + frame::sealed_size(message_length(s)))
 }
 
 // May this byte stand at place i of a line whose 0A stands at place e?
@@ -171,7 +173,7 @@ pub fn read(s: &[u8]) -> Reading
     }
     let l = label_length(s);
     Reading::Fields {
-        serial: number(s, 3, 11),
+        serial: number_at(s, 3, 11),
         label_length: l,
         message_length: message_length(s),
         label_place: 20,
@@ -229,8 +231,8 @@ fn put_head(serial: u64, l: usize, n: usize, out: &mut [u8])
 
 // Writes the line of a frame, with a message of n bytes, into the first bytes of out.
 fn put_line(serial: u64, label: &[u8], n: usize, sealed: &[u8], out: &mut [u8])
-    requires { ⌜ ((length (now label) ≤ 32) × (length (now sealed) ≤ 1032)) × (20 + 2 * (length (now label) + length (now sealed)) + 1 ≤ length (now out)) ⌝ }
-    ensures { λ _. ⌜ now (out .exit) ≡ lineOf (frameOf serial (now (label .entry)) n (now (sealed .entry))) ++ drop (20 + 2 * (length (now (label .entry)) + length (now (sealed .entry))) + 1) (now (out .entry)) ⌝ }
+    requires { ⌜ ((length (now label) ≤ 32) × (length (now sealed) ≤ 1032)) × (lineSize (length (now label)) (length (now sealed)) ≤ length (now out)) ⌝ }
+    ensures { λ _. ⌜ now (out .exit) ≡ lineOf (frameOf serial (now (label .entry)) n (now (sealed .entry))) ++ drop (lineSize (length (now (label .entry))) (length (now (sealed .entry)))) (now (out .entry)) ⌝ }
 {
     put_head(serial, label.len(), n, &mut out[0..20]);
     let at = 20 + 2 * label.len();
@@ -243,7 +245,7 @@ fn put_line(serial: u64, label: &[u8], n: usize, sealed: &[u8], out: &mut [u8])
 // Writes the line of a frame if there is room for it.
 fn give_line(serial: u64, label: &[u8], n: usize, sealed: &[u8], out: &mut [u8]) -> Answer
     requires { ⌜ (length (now label) ≤ 32) × (length (now sealed) ≤ 1032) ⌝ }
-    ensures { λ r. ⌜ (r, now (out .exit)) ≡ lineGiven serial (now (label .entry)) n (now (sealed .entry)) (now (out .entry)) ⌝ }
+    ensures { λ r. ⌜ (r, now (out .exit)) ≡ giving (lineOf (frameOf serial (now (label .entry)) n (now (sealed .entry)))) (now (out .entry)) ⌝ }
 {
     let size = 20 + 2 * (label.len() + sealed.len()) + 1;
     if out.len() < size {
@@ -277,7 +279,7 @@ fn bytes_at(s: &[u8], a: usize, out: &mut [u8])
 {
     let mut i = 0;
     while i < out.len() {
-        out[i] = number(s, a + 2 * i, 2) as u8;
+        out[i] = number_at(s, a + 2 * i, 2) as u8;
         i += 1;
     }
 }
@@ -320,7 +322,7 @@ fn open_fields(
 {
     let mut label = [0u8; 32];
     let mut sealed = [0u8; 1032];
-    let size = (n + 7) / 8 * 8 + 8;
+    let size = frame::sealed_size(n);
     open_bytes(
         w0,
         k0,

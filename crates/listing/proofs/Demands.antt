@@ -1,17 +1,17 @@
 -- "opened is the number of lines that open by demand 2"; a file is good exactly when its listing ends with refused 0.
-use Prim.Native.Nat.{ℕ, zero, suc, _+_, _-_, _≤_, _<_}
+use Prim.Native.Nat.{ℕ, _-_, _≤_}
 use mathlib.Core.Path.{_≡_, refl, sym, ap, _∙_}
 use mathlib.Core.Bool.{true}
 use mathlib.Core.List.{List, [], _∷_, _++_}
 use native.Mathlib.Omega.{arith}
-use lib.ListN.{length, replicate, length-replicate}
+use lib.ListN.{length, replicate}
 use Rattle.refusals.specs.declared.Answer.{Answer}
 use Rattle.refusals.specs.declared.Answer.the-variants.{Wrote, Refused}
 use Rattle.line.specs.Calls.{openingLine, WrittenFrom}
 use Rattle.line.proofs.Demands.{line-opens, line-opens-only}
 use Rattle.listing.proofs.Bounds.{one-few}
-use Rattle.line.specs.Reader.{numberAt}
-use Rattle.listing.specs.Listing.{linesOf, isKey, answerOf, one, openedIn, reports, total, listed, listing, Opens, none, more, GoodFile}
+use Rattle.listing.proofs.Lines.{listed-key}
+use Rattle.listing.specs.Listing.{linesOf, isKey, w0Of, k0Of, answerOf, one, openedIn, reports, total, listed, listing, Opens, none, more, GoodFile}
 
 module _ (w0 k0 : ℕ) where
   -- a line that writing gives is reported as opened, with the length of its message
@@ -45,16 +45,15 @@ module _ (w0 k0 : ℕ) where
 -- ---- a file is good exactly when its listing has a total, and refused is 0 there
 
 module _ (s l : List ℕ) (ls : List (List ℕ)) (cut : linesOf s ≡ l ∷ ls) where
-  pub has-total : isKey l ≡ true → listing s ≡ reports (numberAt l 0 16) (numberAt l 16 16) 0 ls ++ total (length ls) (openedIn (numberAt l 0 16) (numberAt l 16 16) ls)
-  unfolding listed
-  has-total e = ap listed cut ∙ simp e
+  pub has-total : isKey l ≡ true → listing s ≡ reports (w0Of l) (k0Of l) 0 ls ++ total (length ls) (openedIn (w0Of l) (k0Of l) ls)
+  has-total e = ap listed cut ∙ listed-key l ls e
 
-  pub good-refuses-none : GoodFile s → (isKey l ≡ true) × (length ls - openedIn (numberAt l 0 16) (numberAt l 16 16) ls ≡ 0)
+  pub good-refuses-none : GoodFile s → (isKey l ≡ true) × (length ls - openedIn (w0Of l) (k0Of l) ls ≡ 0)
   good-refuses-none g =
       let e : l ∷ ls ≡ g .key ∷ g .lines = sym cut ∙ g .cut in
       let first : l ≡ g .key = cc in
       let rest : ls ≡ g .lines = cc in
-      (ap isKey first ∙ g .right, opens-refuses-none (numberAt l 0 16) (numberAt l 16 16) ls (rw (first, rest) (g .opens)))
+      (ap isKey first ∙ g .right, opens-refuses-none (w0Of l) (k0Of l) ls (rw (first, rest) (g .opens)))
 
-  pub none-refused-good : isKey l ≡ true → length ls - openedIn (numberAt l 0 16) (numberAt l 16 16) ls ≡ 0 → GoodFile s
-  none-refused-good e h = record { key = l; lines = ls; cut = cut; right = e; opens = none-refused-opens (numberAt l 0 16) (numberAt l 16 16) ls h }
+  pub none-refused-good : isKey l ≡ true → length ls - openedIn (w0Of l) (k0Of l) ls ≡ 0 → GoodFile s
+  none-refused-good e h = record { key = l; lines = ls; cut = cut; right = e; opens = none-refused-opens (w0Of l) (k0Of l) ls h }

@@ -1,22 +1,22 @@
 -- The key line: the computed test, and the two numbers.
 use Prim.Native.Nat.{ℕ, zero, suc, _+_, _-_, _^_, _≤_, _<_}
 use mathlib.Core.Bool.{Bool, true, false, _&&_}
-use mathlib.Core.Path.{_≡_, refl, sym, ap, subst, _∙_}
+use mathlib.Core.Path.{_≡_, refl, sym, subst, _∙_}
 use mathlib.Core.List.{List}
-use mathlib.Core.Logic.{_⊎_, inl, inr}
+use mathlib.Core.Logic.{inl, inr}
 use native.Mathlib.Nat.{pow-le-pow-right, eq-or-lt-of-le, lt-of-lt-of-le}
 use native.Mathlib.Numerals.{add-one}
 use native.Mathlib.Omega.{arith}
-use borrow.Author.Tests.{lt-ltb, le-ltb, eq-eqb, ne-eqb, ltb-true}
-use lib.Dec.{lit<, ltb, eqb}
+use borrow.Author.Tests.{lt-ltb, eq-eqb, ne-eqb, ltb-true}
+use lib.Dec.{lit<, eqb}
 use lib.ListN.{length, getD}
+use Rattle.words.proofs.Cases.{both}
 use Rattle.line.specs.Reader.{hexValue, numberAt}
-use Rattle.line.proofs.Shape.{inside, both}
-use Rattle.line.proofs.Written.{num-below}
-use Rattle.listing.specs.Listing.{areDigits, isKey}
-use Rattle.listing.specs.Pieces.{keyOf}
-use Rattle.listing.specs.declared.Key.{Key}
-use Rattle.listing.specs.declared.Key.the-variants.{Unread, Known, Bad}
+use Rattle.line.proofs.Shape.{inside}
+use Rattle.line.proofs.Good.{num-below}
+use Rattle.listing.specs.Listing.{areDigits, isKey, w0Of, k0Of}
+use Rattle.listing.specs.Chunks.{keyOf}
+use Rattle.listing.specs.declared.Key.the-variants.{Known, Bad}
 
 -- sixteen digits make a number of 64 bits
 pub key-room : (l : List ℕ) (a i : ℕ) → i < 16 → ((j : ℕ) → j < 16 → hexValue (getD l (a + j) 48) < 16) → numberAt l a i < 2 ^ 60
@@ -30,18 +30,6 @@ key-room l a i h d =
 pub digits-next : (l : List ℕ) (i : ℕ) → areDigits l i ≡ true → hexValue (getD l i 48) < 16 → areDigits l (i + 1) ≡ true
 digits-next l i h d = rw add-one (simp (h, lt-ltb (hexValue (getD l i 48)) 16 d))
 
-digits-not : (l : List ℕ) (n i : ℕ) → i < n → 16 ≤ hexValue (getD l i 48) → areDigits l n ≡ false
-digits-not l zero i h d = absurd (omega arith)
-digits-not l (suc n) i h d =
-    elim (eq-or-lt-of-le {n = i} {m = n} (omega arith)) [
-      | inl e ↦ last (areDigits l n) (subst (λ (k : ℕ). 16 ≤ hexValue (getD l k 48)) e d)
-      | inr k ↦ ap (λ (t : Bool). t && ltb (hexValue (getD l n 48)) 16) (digits-not l n i k d)
-    ]
-  where
-    last : (t : Bool) → 16 ≤ hexValue (getD l n 48) → t && ltb (hexValue (getD l n 48)) 16 ≡ false
-    last true e = le-ltb (hexValue (getD l n 48)) 16 e
-    last false e = refl
-
 pub digit-in : (l : List ℕ) (n i : ℕ) → areDigits l n ≡ true → i < n → hexValue (getD l i 48) < 16
 digit-in l zero i h k = absurd (omega arith)
 digit-in l (suc n) i h k =
@@ -50,6 +38,13 @@ digit-in l (suc n) i h k =
       | inl e ↦ subst (λ (j : ℕ). hexValue (getD l j 48) < 16) (sym e) (ltb-true _ 16 (b .1))
       | inr u ↦ digit-in l n i (b .0) u
     ]
+
+digits-not : (l : List ℕ) (n i : ℕ) → i < n → 16 ≤ hexValue (getD l i 48) → areDigits l n ≡ false
+digits-not l n i h d = go (areDigits l n) refl
+  where
+    go : (t : Bool) → areDigits l n ≡ t → areDigits l n ≡ false
+    go true e = absurd (omega (arith, digit-in l n i e h))
+    go false e = e
 
 -- ---- the test, case by case
 
@@ -85,6 +80,6 @@ module _ (l : List ℕ) where
   unfolding keyOf
   key-bad h = simp h
 
-  pub key-known : (w0 k0 : ℕ) → isKey l ≡ true → w0 ≡ numberAt l 0 16 → k0 ≡ numberAt l 16 16 → Known w0 k0 ≡ keyOf l
+  pub key-known : (w0 k0 : ℕ) → isKey l ≡ true → w0 ≡ w0Of l → k0 ≡ k0Of l → Known w0 k0 ≡ keyOf l
   unfolding keyOf
   key-known w0 k0 h e f = simp (h, e, f)

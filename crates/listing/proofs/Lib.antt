@@ -3,6 +3,8 @@ pub mod Keys
 pub mod Gathering
 pub mod Long
 pub mod Bounds
-pub mod Whole
+pub mod Lines
+pub mod Bytes
+pub mod Chunks
 pub mod Demands
 pub mod Outcomes

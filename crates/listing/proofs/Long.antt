@@ -1,23 +1,17 @@
 -- The first 2,150 bytes of a line decide.
-use Prim.Native.Nat.{ℕ, _≤_, _<_}
-use mathlib.Core.Bool.{Bool, true, false, _&&_}
-use mathlib.Core.Path.{_≡_, refl, sym, ap, _∙_}
+use Prim.Native.Nat.{ℕ}
+use mathlib.Core.Path.{_≡_, sym, ap, _∙_}
 use mathlib.Core.List.{List}
 use native.Mathlib.Nat.{le-refl}
 use native.Mathlib.Omega.{arith}
-use borrow.Author.Tests.{ne-eqb}
-use lib.Dec.{eqb}
 use lib.ListN.{length, take, replicate, length-take}
 use lib.Seq.{take-all}
-use Rattle.refusals.specs.declared.Answer.{Answer}
-use Rattle.line.specs.Reader.{place, reading}
+use Rattle.words.proofs.Cases.{by-lt}
 use Rattle.line.specs.Calls.{openingAs, openingLine}
 use Rattle.line.specs.declared.Reading.{Reading}
-use Rattle.line.specs.declared.Reading.the-variants.{NotLine}
-use Rattle.line.proofs.Shape.{by-lt}
-use Rattle.line.proofs.Places.{long-line, long-bad}
-use Rattle.listing.specs.Listing.{isKey, answerOf}
-use Rattle.listing.specs.Pieces.{keyOf}
+use Rattle.line.proofs.Ends.{long-line, long-bad}
+use Rattle.listing.specs.Listing.{answerOf}
+use Rattle.listing.specs.Chunks.{keyOf}
 use Rattle.listing.proofs.Keys.{other-length, key-bad}
 
 pub long-answer : (w0 k0 : ℕ) (l : List ℕ) → answerOf w0 k0 (take 2150 l) ≡ answerOf w0 k0 l

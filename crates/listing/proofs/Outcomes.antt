@@ -1,16 +1,16 @@
 -- One outcome: each public contract of `listing` leaves one answer and one content of lent memory.
-use mathlib.Core.Path.{_≡_, sym, ap, _∙_}
+use mathlib.Core.Path.{_≡_, sym, _∙_}
 use mathlib.Core.List.{List}
 use Prim.Native.Nat.{ℕ}
 use Rattle.words.proofs.Decided.{Decided}
-use Rattle.listing.specs.Pieces.{Added, Ends, Feeds}
+use Rattle.listing.specs.Chunks.{Appended, Ends, Feeds}
 use Rattle.listing.specs.declared.Lister.{Lister}
 use Rattle.listing.specs.declared.Gathered.{Gathered}
 use Rattle.listing.specs.declared.Ended.{Ended}
 use Rattle.listing.specs.declared.Fed.{Fed}
 use Rattle.listing.proofs
 
-module _ {d t o p : List ℕ} {m n : ℕ} (a : Added d 0 t o m) (b : Added d 0 t p n) where
+module _ {d t o p : List ℕ} {m n : ℕ} (a : Appended d 0 t o m) (b : Appended d 0 t p n) where
   one-end : m ≡ n
   one-end = a .end ∙ sym (b .end)
 
@@ -24,10 +24,10 @@ one-feeding : {t : Lister} {g : Gathered × List ℕ} {d l m o p : List ℕ} {r 
 one-feeding a b = λ i. record { state = (a .state ∙ sym (b .state)) i; taken = (a .taken ∙ sym (b .taken)) i; said = one-end (a .text) (b .text) i }
 
 pub feed-decided : Decided proofs.feed.Kinds.ps proofs.feed.Kinds.r proofs.feed.Reads.Post
-feed-decided κs a x y v w p q = (one-feeding p q, λ i. (tt, ((p .kept ∙ sym (q .kept)) i, (tt, (one-text (p .text) (q .text) i, tt)))))
+feed-decided κs a x y v w p q = (one-feeding p q, λ i. (tt, ((p .line ∙ sym (q .line)) i, (tt, (one-text (p .text) (q .text) i, tt)))))
 
 pub finish-decided : Decided proofs.finish.Kinds.ps proofs.finish.Kinds.r proofs.finish.Reads.Post
 finish-decided κs a x y v w p q = (one-ending p q, λ i. (tt, (tt, (one-text (p .text) (q .text) i, tt))))
 
-pub sum-up-decided : Decided proofs.sum_up.Kinds.ps proofs.sum_up.Kinds.r proofs.sum_up.Reads.Post
-sum-up-decided κs a x y v w p q = (one-end p q, λ i. (tt, (one-text p q i, tt)))
+pub close-decided : Decided proofs.close.Kinds.ps proofs.close.Kinds.r proofs.close.Reads.Post
+close-decided κs a x y v w p q = (one-end p q, λ i. (tt, (one-text p q i, tt)))

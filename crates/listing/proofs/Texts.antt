@@ -1,18 +1,16 @@
 -- Texts: numbers in decimal, and one text behind another.
-use Prim.Native.Nat.{ℕ, zero, suc, _+_, _-_, _*_, _/_, _%_, _^_, _≤_, _<_}
+use Prim.Native.Nat.{ℕ, zero, suc, _+_, _-_, _/_, _%_, _^_, _≤_, _<_}
 use mathlib.Core.Bool.{Bool, true, false, cond}
-use mathlib.Core.Path.{_≡_, refl, sym, ap, ap₂, subst, _∙_}
+use mathlib.Core.Path.{_≡_, refl, sym, ap, ap₂, _∙_}
 use mathlib.Core.List.{List, [], _∷_, _++_, append-assoc, append-nil}
 use native.Mathlib.Nat.{le-refl, pow-suc, div-lt-iff-lt-mul}
 use native.Mathlib.Omega.{arith}
-use borrow.Author.Tests.{lt-ltb, le-ltb, eq-eqb, ne-eqb}
+use borrow.Author.Tests.{lt-ltb, le-ltb}
 use lib.Dec.{lit<, ltb}
-use lib.ListN.{length, getD, take, drop, set, length-append, length-drop, length-set, drop-of-length-le}
+use lib.ListN.{length, take, drop, set, length-append, length-drop, length-set, drop-of-length-le}
 use lib.Seq.{drop-cons, lt-length-set, getD-set-same, drop-set-lt, take-at, take-all, take-length, drop-append-add, drop-drop, paste, length-paste-head}
-use Rattle.refusals.specs.Refusals.{numberOf, placeOf}
-use Rattle.refusals.specs.declared.Refusal.{Refusal}
-use Rattle.listing.specs.Listing.{spelled, decimal, at, refusalText}
-use Rattle.listing.specs.Pieces.{Added}
+use Rattle.listing.specs.Listing.{spelled, decimal}
+use Rattle.listing.specs.Chunks.{Appended}
 
 -- ---- a number, digit by digit from the last
 
@@ -56,7 +54,7 @@ spell-turn x i rest text h s = (some-left i rest h (s .left), turned i s)
               ∙ s .whole;
         })
 
-pub spell-end : (x i rest : ℕ) (text : List ℕ) → rest < 10 → Spelling x i rest text → drop i (set text i (rest + 48)) ≡ decimal x
+spell-end : (x i rest : ℕ) (text : List ℕ) → rest < 10 → Spelling x i rest text → drop i (set text i (rest + 48)) ≡ decimal x
 spell-end x i rest text h s =
     drop-set text i (rest + 48) (omega (arith, s .place, s .size))
     ∙ ap (λ (l : List ℕ). l ++ drop (suc i) text) (sym (spelled-last i rest h))
@@ -97,7 +95,7 @@ pasted d t u n room =
     ∙ ap (λ (x : List ℕ). x ++ drop (n + length (t ++ u)) d)
     (ap₂ (λ (x y : List ℕ). take n d ++ x ++ y) (take-length t) (take-length u) ∙ append-assoc (take n d) t u ∙ ap (λ (x : List ℕ). take n d ++ x) (sym (take-length (t ++ u))))
 
-pub and-then : {d o p t u : List ℕ} {n m k : ℕ} → Added d n t o m → Added o m u p k → k ≤ length d → Added d n (t ++ u) p k
+pub and-then : {d o p t u : List ℕ} {n m k : ℕ} → Appended d n t o m → Appended o m u p k → k ≤ length d → Appended d n (t ++ u) p k
 and-then {d} {o} {p} {t} {u} {n} {m} {k} a b h =
     let room : n + length t + length u ≤ length d = omega (arith, a .end, b .end) in
     record {
@@ -105,20 +103,6 @@ and-then {d} {o} {p} {t} {u} {n} {m} {k} a b h =
       text = b .text ∙ ap₂ (λ (x : List ℕ) (i : ℕ). paste x i u (length u)) (a .text) (a .end) ∙ pasted d t u n room;
     }
 
--- the same text, put together otherwise
-pub same-text : {d t u o : List ℕ} {n m : ℕ} → t ≡ u → Added d n t o m → Added d n u o m
-same-text {d} {t} {u} {o} {n} {m} e a = subst (λ (x : List ℕ). Added d n x o m) e a
-
--- the text of a refusal is its number, and for 7 the place
-pub refusal-plain : (r : Refusal) → (numberOf r ≡ 7 → ⊥) → decimal (numberOf r) ≡ refusalText r
-refusal-plain r h = simp (ne-eqb (numberOf r) 7 h)
-
-pub refusal-place : (r : Refusal) → numberOf r ≡ 7 → decimal (numberOf r) ++ (at ++ decimal (placeOf r)) ≡ refusalText r
-refusal-place r h = simp (eq-eqb (numberOf r) 7 h)
-
-pub seven : (a b c d e f g : List ℕ) → (((a ++ b) ++ (c ++ d)) ++ (e ++ f)) ++ g ≡ a ++ (b ++ (c ++ (d ++ (e ++ (f ++ g)))))
-seven a b c d e f g = simp append-assoc
-
 -- no text at all
-pub nothing-added : (d : List ℕ) → Added d 0 [] d 0
-nothing-added d = record { end = refl; text = refl }
+pub nothing-appended : (d : List ℕ) → Appended d 0 [] d 0
+nothing-appended d = record { end = refl; text = refl }

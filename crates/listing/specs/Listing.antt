@@ -34,7 +34,14 @@ areDigits l (suc n) = areDigits l n && ltb (hexValue (getD l n 48)) 16
 unfoldable pub isKey : List ℕ → Bool
 isKey l = eqb (length l) 33 && eqb (getD l 32 48) 10 && areDigits l 32
 
--- ---- what is printed
+-- "w0 then k0"
+abbrev pub w0Of : List ℕ → ℕ
+w0Of l = numberAt l 0 16
+
+abbrev pub k0Of : List ℕ → ℕ
+k0Of l = numberAt l 16 16
+
+-- ---- what is printed: "Every printed line ends with byte 0A."
 
 -- a number n below 10 ^ k in decimal
 unfoldable pub spelled : ℕ → ℕ → List ℕ
@@ -46,20 +53,20 @@ abbrev pub decimal : ℕ → List ℕ
 decimal n = spelled 20 n
 
 -- "key refused", 0A
-abbrev pub keyRefused : List ℕ
-keyRefused = 107 ∷ 101 ∷ 121 ∷ 32 ∷ 114 ∷ 101 ∷ 102 ∷ 117 ∷ 115 ∷ 101 ∷ 100 ∷ 10 ∷ []
+abbrev pub keyRefusedText : List ℕ
+keyRefusedText = 107 ∷ 101 ∷ 121 ∷ 32 ∷ 114 ∷ 101 ∷ 102 ∷ 117 ∷ 115 ∷ 101 ∷ 100 ∷ 10 ∷ []
 
 -- " opened "
-abbrev pub opened : List ℕ
-opened = 32 ∷ 111 ∷ 112 ∷ 101 ∷ 110 ∷ 101 ∷ 100 ∷ 32 ∷ []
+abbrev pub openedText : List ℕ
+openedText = 32 ∷ 111 ∷ 112 ∷ 101 ∷ 110 ∷ 101 ∷ 100 ∷ 32 ∷ []
 
 -- " refused "
-abbrev pub refused : List ℕ
-refused = 32 ∷ 114 ∷ 101 ∷ 102 ∷ 117 ∷ 115 ∷ 101 ∷ 100 ∷ 32 ∷ []
+abbrev pub refusedText : List ℕ
+refusedText = 32 ∷ 114 ∷ 101 ∷ 102 ∷ 117 ∷ 115 ∷ 101 ∷ 100 ∷ 32 ∷ []
 
 -- " at "
-abbrev pub at : List ℕ
-at = 32 ∷ 97 ∷ 116 ∷ 32 ∷ []
+abbrev pub atText : List ℕ
+atText = 32 ∷ 97 ∷ 116 ∷ 32 ∷ []
 
 -- "lines "
 abbrev pub linesText : List ℕ
@@ -67,12 +74,12 @@ linesText = 108 ∷ 105 ∷ 110 ∷ 101 ∷ 115 ∷ 32 ∷ []
 
 -- "`refused`, the number and, for 7, the place"
 abbrev pub refusalText : Refusal → List ℕ
-refusalText r = cond (eqb (numberOf r) 7) (decimal (numberOf r) ++ (at ++ decimal (placeOf r))) (decimal (numberOf r))
+refusalText r = decimal (numberOf r) ++ cond (eqb (numberOf r) 7) (atText ++ decimal (placeOf r)) []
 
 -- "Each line prints its number with `opened` and the message length, or `refused`, .."
 abbrev pub report : ℕ → Answer → List ℕ
-report n (Wrote k) = decimal n ++ (opened ++ (decimal k ++ (10 ∷ [])))
-report n (Refused r) = decimal n ++ (refused ++ (refusalText r ++ (10 ∷ [])))
+report n (Wrote k) = decimal n ++ (openedText ++ (decimal k ++ (10 ∷ [])))
+report n (Refused r) = decimal n ++ (refusedText ++ (refusalText r ++ (10 ∷ [])))
 
 -- what opening a line answers, with room for every message
 unfoldable pub answerOf : ℕ → ℕ → List ℕ → Answer
@@ -95,15 +102,15 @@ openedIn w0 k0 (l ∷ ls) = one (answerOf w0 k0 l) + openedIn w0 k0 ls
 
 -- "a total closes"
 abbrev pub total : ℕ → ℕ → List ℕ
-total n k = linesText ++ (decimal n ++ (opened ++ (decimal k ++ (refused ++ (decimal (n - k) ++ (10 ∷ []))))))
+total n k = linesText ++ (decimal n ++ (openedText ++ (decimal k ++ (refusedText ++ (decimal (n - k) ++ (10 ∷ []))))))
 
 -- "A bad key line prints `key refused` and nothing more."
 unfoldable pub listed : List (List ℕ) → List ℕ
-listed [] = keyRefused
+listed [] = keyRefusedText
 listed (l ∷ ls) =
     cond (isKey l)
-    (reports (numberAt l 0 16) (numberAt l 16 16) 0 ls ++ total (length ls) (openedIn (numberAt l 0 16) (numberAt l 16 16) ls))
-    keyRefused
+    (reports (w0Of l) (k0Of l) 0 ls ++ total (length ls) (openedIn (w0Of l) (k0Of l) ls))
+    keyRefusedText
 
 -- the whole output for an input
 abbrev pub listing : List ℕ → List ℕ
@@ -120,4 +127,4 @@ pub record GoodFile (s : List ℕ) : Type 0 where
   pub lines : List (List ℕ)
   pub cut : linesOf s ≡ key ∷ lines
   pub right : isKey key ≡ true
-  pub opens : Opens (numberAt key 0 16) (numberAt key 16 16) lines
+  pub opens : Opens (w0Of key) (k0Of key) lines

@@ -1,4 +1,4 @@
-// The file checker's listing, reckoned from the pieces of its input.
+// The file checker's listing, reckoned from the chunks of its input.
 use refusals::Answer;
 use refusals::Refusal;
 ghost use mathlib.Core.Path.{_≡_};
@@ -9,7 +9,7 @@ ghost use Rattle.line.specs.Reader.{hexValue, numberAt};
 ghost use Rattle.refusals.specs.declared.Answer.the-variants.{Wrote, Refused};
 ghost use Rattle.listing.specs.declared.Key.the-variants.{Unread, Known};
 ghost use Rattle.listing.specs.Listing.{isKey, decimal, refusalText, report, answerOf, one, total};
-ghost use Rattle.listing.specs.Pieces.{pushing, pushed, gathering, Added, keyOf, keyText, Ends, endedAs, ending, Feeds, finishing, closing, Kept};
+ghost use Rattle.listing.specs.Chunks.{pushing, pushed, gathering, Appended, keyOf, keyText, Ends, endedAs, ending, Feeds, finishing, closing, Kept};
 
 // How many bytes of a line are kept: one more than the longest good line has, so that they decide its reading.
 const LINE_KEPT: usize = 2150;
@@ -21,7 +21,7 @@ pub enum Key {
     Bad,
 }
 
-// What is kept between two pieces, beside the first bytes of the line that has not ended: the key, how many lines have ended, how many of them opened, and how many bytes are held.
+// What is kept between two chunks, beside the first bytes of the line that has not ended: the key, how many lines have ended, how many of them opened, and how many bytes are held.
 pub struct Lister {
     pub key: Key,
     pub lines: u64,
@@ -29,7 +29,7 @@ pub struct Lister {
     pub held: usize,
 }
 
-// How many bytes are held now, how many of the piece were taken, and whether the last was a 0A.
+// How many bytes are held now, how many of the chunk were taken, and whether the last was a 0A.
 pub struct Gathered {
     pub held: usize,
     pub taken: usize,
@@ -42,7 +42,7 @@ pub struct Ended {
     pub said: usize,
 }
 
-// A state, how many bytes of the piece were taken, and how many there are to print.
+// A state, how many bytes of the chunk were taken, and how many there are to print.
 pub struct Fed {
     pub state: Lister,
     pub taken: usize,
@@ -50,9 +50,9 @@ pub struct Fed {
 }
 
 // Writes a text behind the first n bytes of out, and answers where it ends.
-fn add(out: &mut [u8], n: usize, text: &[u8]) -> usize
+fn append(out: &mut [u8], n: usize, text: &[u8]) -> usize
     requires { ⌜ (length (now text) ≤ 64) × (n + length (now text) ≤ length (now out)) ⌝ }
-    ensures { λ r. ⌜ Added (now (out .entry)) n (now (text .entry)) (now (out .exit)) r × (r ≡ n + length (now (text .entry))) ⌝ }
+    ensures { λ r. ⌜ Appended (now (out .entry)) n (now (text .entry)) (now (out .exit)) r × (r ≡ n + length (now (text .entry))) ⌝ }
 {
     let mut i = 0;
     while i < text.len() {
@@ -63,9 +63,9 @@ fn add(out: &mut [u8], n: usize, text: &[u8]) -> usize
 }
 
 // Writes a number in decimal behind the first n bytes of out, and answers where it ends.
-fn add_decimal(out: &mut [u8], n: usize, x: u64) -> usize
+fn append_decimal(out: &mut [u8], n: usize, x: u64) -> usize
     requires { ⌜ (n ≤ 2 ^ 16) × (n + 20 ≤ length (now out)) ⌝ }
-    ensures { λ r. ⌜ Added (now (out .entry)) n (decimal x) (now (out .exit)) r × (r ≤ n + 20) ⌝ }
+    ensures { λ r. ⌜ Appended (now (out .entry)) n (decimal x) (now (out .exit)) r × (r ≤ n + 20) ⌝ }
 {
     let mut text = [0u8; 20];
     let mut rest = x;
@@ -76,61 +76,61 @@ fn add_decimal(out: &mut [u8], n: usize, x: u64) -> usize
         i -= 1;
     }
     text[i] = rest as u8 + 48;
-    add(out, n, &text[i..])
+    append(out, n, &text[i..])
 }
 
 // Writes a text and a number in decimal behind the first n bytes of out, and answers where they end.
-fn add_field(out: &mut [u8], n: usize, text: &[u8], x: u64) -> usize
+fn append_field(out: &mut [u8], n: usize, text: &[u8], x: u64) -> usize
     requires { ⌜ ((length (now text) ≤ 16) × (n ≤ 2 ^ 10)) × (n + length (now text) + 20 ≤ length (now out)) ⌝ }
-    ensures { λ r. ⌜ Added (now (out .entry)) n (now (text .entry) ++ decimal x) (now (out .exit)) r × (r ≤ n + length (now (text .entry)) + 20) ⌝ }
+    ensures { λ r. ⌜ Appended (now (out .entry)) n (now (text .entry) ++ decimal x) (now (out .exit)) r × (r ≤ n + length (now (text .entry)) + 20) ⌝ }
 {
-    let a = add(out, n, text);
-    add_decimal(out, a, x)
+    let a = append(out, n, text);
+    append_decimal(out, a, x)
 }
 
 // Writes a refusal's number, and for 7 its place.
-fn add_refusal(out: &mut [u8], n: usize, r: Refusal) -> usize
+fn append_refusal(out: &mut [u8], n: usize, r: Refusal) -> usize
     requires { ⌜ (n ≤ 2 ^ 9) × (n + 44 ≤ length (now out)) ⌝ }
-    ensures { λ m. ⌜ Added (now (out .entry)) n (refusalText r) (now (out .exit)) m × (m ≤ n + 44) ⌝ }
+    ensures { λ m. ⌜ Appended (now (out .entry)) n (refusalText r) (now (out .exit)) m × (m ≤ n + 44) ⌝ }
 {
     let k = refusals::number(r);
-    let a = add_decimal(out, n, k as u64);
+    let a = append_decimal(out, n, k as u64);
     if k != 7 {
         return a;
     }
-    add_field(out, a, b" at ", refusals::place(r) as u64)
+    append_field(out, a, b" at ", refusals::place(r) as u64)
 }
 
 // Writes the report of line x, which opened to a message of so many bytes.
 fn put_opened(out: &mut [u8], x: u64, count: u32) -> usize
     requires { ⌜ 128 ≤ length (now out) ⌝ }
-    ensures { λ m. ⌜ Added (now (out .entry)) 0 (report x (Wrote count)) (now (out .exit)) m ⌝ }
+    ensures { λ m. ⌜ Appended (now (out .entry)) 0 (report x (Wrote count)) (now (out .exit)) m ⌝ }
 {
-    let a = add_decimal(out, 0, x);
-    let b = add_field(out, a, b" opened ", count as u64);
-    add(out, b, b"\n")
+    let a = append_decimal(out, 0, x);
+    let b = append_field(out, a, b" opened ", count as u64);
+    append(out, b, b"\n")
 }
 
 // Writes the report of line x, which was refused.
 fn put_refused(out: &mut [u8], x: u64, r: Refusal) -> usize
     requires { ⌜ 128 ≤ length (now out) ⌝ }
-    ensures { λ m. ⌜ Added (now (out .entry)) 0 (report x (Refused r)) (now (out .exit)) m ⌝ }
+    ensures { λ m. ⌜ Appended (now (out .entry)) 0 (report x (Refused r)) (now (out .exit)) m ⌝ }
 {
-    let a = add_decimal(out, 0, x);
-    let b = add(out, a, b" refused ");
-    let c = add_refusal(out, b, r);
-    add(out, c, b"\n")
+    let a = append_decimal(out, 0, x);
+    let b = append(out, a, b" refused ");
+    let c = append_refusal(out, b, r);
+    append(out, c, b"\n")
 }
 
 // Writes the total.
 fn put_total(out: &mut [u8], lines: u64, opened: u64) -> usize
     requires { ⌜ (opened ≤ lines) × (128 ≤ length (now out)) ⌝ }
-    ensures { λ m. ⌜ Added (now (out .entry)) 0 (total lines opened) (now (out .exit)) m ⌝ }
+    ensures { λ m. ⌜ Appended (now (out .entry)) 0 (total lines opened) (now (out .exit)) m ⌝ }
 {
-    let a = add_field(out, 0, b"lines ", lines);
-    let b = add_field(out, a, b" opened ", opened);
-    let c = add_field(out, b, b" refused ", lines - opened);
-    add(out, c, b"\n")
+    let a = append_field(out, 0, b"lines ", lines);
+    let b = append_field(out, a, b" opened ", opened);
+    let c = append_field(out, b, b" refused ", lines - opened);
+    append(out, c, b"\n")
 }
 
 // The number of the sixteen digits from place a on.
@@ -201,7 +201,7 @@ fn one_of(a: Answer) -> u64
 // Writes the report of line x.
 fn put_report(out: &mut [u8], x: u64, a: Answer) -> usize
     requires { ⌜ 128 ≤ length (now out) ⌝ }
-    ensures { λ m. ⌜ Added (now (out .entry)) 0 (report x a) (now (out .exit)) m ⌝ }
+    ensures { λ m. ⌜ Appended (now (out .entry)) 0 (report x a) (now (out .exit)) m ⌝ }
 {
     match a {
         Answer::Wrote { count } => put_opened(out, x, count),
@@ -212,10 +212,10 @@ fn put_report(out: &mut [u8], x: u64, a: Answer) -> usize
 // Writes what is printed of the key line.
 fn put_key(out: &mut [u8], key: Key) -> usize
     requires { ⌜ 128 ≤ length (now out) ⌝ }
-    ensures { λ m. ⌜ Added (now (out .entry)) 0 (keyText key) (now (out .exit)) m ⌝ }
+    ensures { λ m. ⌜ Appended (now (out .entry)) 0 (keyText key) (now (out .exit)) m ⌝ }
 {
     match key {
-        Key::Bad => add(out, 0, b"key refused\n"),
+        Key::Bad => append(out, 0, b"key refused\n"),
         Key::Unread => 0,
         Key::Known { .. } => 0,
     }
@@ -290,15 +290,15 @@ fn push(line: &mut [u8], held: usize, b: u8) -> usize
     held
 }
 
-// The bytes of a piece up to its first 0A, behind those that are held.
-fn gather(line: &mut [u8], held: usize, piece: &[u8]) -> Gathered
+// The bytes of a chunk up to its first 0A, behind those that are held.
+fn gather(line: &mut [u8], held: usize, chunk: &[u8]) -> Gathered
     requires { ⌜ (held ≤ 2150) × (2150 ≤ length (now line)) ⌝ }
-    ensures { λ r. ⌜ ((r, now (line .exit)) ≡ gathering (now (line .entry)) held 0 (now (piece .entry))) × (r .held ≤ 2150) ⌝ }
+    ensures { λ r. ⌜ ((r, now (line .exit)) ≡ gathering (now (line .entry)) held 0 (now (chunk .entry))) × (r .held ≤ 2150) ⌝ }
 {
     let mut h = held;
     let mut i = 0;
-    while i < piece.len() {
-        let b = piece[i];
+    while i < chunk.len() {
+        let b = chunk[i];
         h = push(line, h, b);
         i += 1;
         if b == 10 {
@@ -316,12 +316,12 @@ fn gather(line: &mut [u8], held: usize, piece: &[u8]) -> Gathered
     }
 }
 
-// Takes bytes from a piece up to its first 0A, and writes what there is to print of the line that ended.
-pub fn feed(t: Lister, line: &mut [u8], piece: &[u8], out: &mut [u8]) -> Fed
+// Takes bytes from a chunk up to its first 0A, and writes what there is to print of the line that ended.
+pub fn feed(t: Lister, line: &mut [u8], chunk: &[u8], out: &mut [u8]) -> Fed
     requires { ⌜ (Kept t × (2150 ≤ length (now line))) × (128 ≤ length (now out)) ⌝ }
-    ensures { λ r. ⌜ Feeds t (gathering (now (line .entry)) (t .held) 0 (now (piece .entry))) (now (out .entry)) r (now (line .exit)) (now (out .exit)) ⌝ }
+    ensures { λ r. ⌜ Feeds t (gathering (now (line .entry)) (t .held) 0 (now (chunk .entry))) (now (out .entry)) r (now (line .exit)) (now (out .exit)) ⌝ }
 {
-    let g = gather(line, t.held, piece);
+    let g = gather(line, t.held, chunk);
     if g.ended {
         let e = end_line(t, &line[..g.held], out);
         let state = e.state;
@@ -356,13 +356,13 @@ pub fn finish(t: Lister, line: &[u8], out: &mut [u8]) -> Ended
 }
 
 // Writes what closes the listing.
-pub fn sum_up(t: Lister, out: &mut [u8]) -> usize
+pub fn close(t: Lister, out: &mut [u8]) -> usize
     requires { ⌜ Kept t × (128 ≤ length (now out)) ⌝ }
-    ensures { λ m. ⌜ Added (now (out .entry)) 0 (closing t) (now (out .exit)) m ⌝ }
+    ensures { λ m. ⌜ Appended (now (out .entry)) 0 (closing t) (now (out .exit)) m ⌝ }
 {
     let key = t.key;
     match key {
-        Key::Unread => add(out, 0, b"key refused\n"),
+        Key::Unread => append(out, 0, b"key refused\n"),
         Key::Known { .. } => put_total(out, t.lines, t.opened),
         Key::Bad => 0,
     }

@@ -1,6 +1,6 @@
 // What a refused caller gets, and the number that goes back through C.
 ghost use mathlib.Core.Path.{_≡_};
-ghost use Rattle.refusals.specs.Refusals.{numberOf, placeOf, numbered};
+ghost use Rattle.refusals.specs.Refusals.{numberOf, placeOf, returnedOf};
 
 // The refusals of document 01, in the order of its table.
 pub enum Refusal {
@@ -51,7 +51,7 @@ pub fn place(r: Refusal) -> u32
 
 // An answer as the number that a C call returns.
 pub fn returned(a: Answer) -> u64
-    ensures { λ n. ⌜ n ≡ numbered a ⌝ }
+    ensures { λ n. ⌜ n ≡ returnedOf a ⌝ }
 {
     match a {
         Answer::Wrote { count } => count as u64,

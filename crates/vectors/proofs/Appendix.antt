@@ -3,7 +3,7 @@ use mathlib.Core.List.{List, [], _∷_, map}
 use mathlib.Core.Path.{_≡_, refl}
 use Prim.Native.Nat.{ℕ}
 use Rattle.cells.specs.Cells.{cut, joined, added, looked, picked, mixedBy, onSeven}
-use Rattle.cells.specs.Lists.{upto}
+use Rattle.words.specs.Lists.{upto}
 use Rattle.cells.specs.Qarma64.{qarma64}
 use Rattle.cipher.specs.Engine.{keySchedule, turned, forward, shortForward, backward, shortBackward, forwardWord, backwardWord, forwardStep, centre, middle, backwardStep, engine}
 use Rattle.cipher.specs.Words.{engineWord}
@@ -27,14 +27,14 @@ vectors =
     ∷ []
 
 abbrev key : Schedule
-key = keySchedule 4 0x84BE85CE9804E94B 0xEC2802D4E0A488E9
+key = keySchedule qarma64 0x84BE85CE9804E94B 0xEC2802D4E0A488E9
 
 abbrev plain : ℕ
 plain = 0xFB623599DA6E8127
 
 -- a vector's box and rounds, under a schedule and the tweak of the appendix
 abbrev ran : Schedule → Vector → ℕ → ℕ
-ran s v p = engineWord (v .0) (v .1) s 0x477D469DEC0B8762 p
+ran s v p = engineWord qarma64 (v .0) (v .1) s 0x477D469DEC0B8762 p
 
 -- a vector enciphered, and deciphered
 abbrev gives : Vector → ℕ × ℕ

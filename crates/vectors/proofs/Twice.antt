@@ -7,14 +7,15 @@ use Rattle.words.specs.Cases.{ifLe}
 use Rattle.words.specs.Digits.{digits}
 use Rattle.words.proofs.Laws.{digits-below}
 use Rattle.cells.specs.Cells.{cut, joined, added, looked, picked, mixedBy, onSeven}
-use Rattle.cells.specs.Lists.{upto}
+use Rattle.words.specs.Lists.{upto}
+use Rattle.cells.specs.Qarma64.{qarma64}
 use Rattle.cipher.specs.Engine.{keySchedule, forward, shortForward, backward, shortBackward, forwardWord, backwardWord, forwardStep, centre, middle, backwardStep, engine}
 use Rattle.cipher.specs.declared.Schedule.{Schedule}
 use Rattle.frame.specs.Blocks.{filled, purpose, tagPurpose}
 use Rattle.frame.specs.Frames.{sealedBytes, SealedFrom}
 
 abbrev key : Schedule
-key = keySchedule 4 0x84BE85CE9804E94B 0xEC2802D4E0A488E9
+key = keySchedule qarma64 0x84BE85CE9804E94B 0xEC2802D4E0A488E9
 
 -- the sealed bytes under serial 1 and no label
 abbrev text : List ℕ
@@ -28,6 +29,6 @@ pub at-fifteen : SealedFrom key 1 [] 15 text
 unfolding ifLe upto cut joined added looked picked mixedBy onSeven forward shortForward backward shortBackward forwardWord backwardWord forwardStep centre middle backwardStep engine filled purpose tagPurpose sealedBytes
 at-fifteen = record { message = digits 8 15 0xA54729AA326468950000024299B5A8; bytes = digits-below 8 15 0xA54729AA326468950000024299B5A8; size = refl; sealed = refl }
 
--- so no theorem says "no sealed text opens at two lengths"
+-- so no theorem says that sealed bytes open at one length only
 pub two-lengths : ((n k : ℕ) → SealedFrom key 1 [] n text → SealedFrom key 1 [] k text → n ≡ k) → ⊥
 two-lengths one = absurd (omega (arith, one 16 15 at-sixteen at-fifteen))

@@ -1,5 +1,5 @@
 // Runs the vectors of appendix A.1 of document 000, enciphered and deciphered, and the examples of document 01 about rounds, sealing and opening.
-use cipher::Block;
+use cipher::BlockAnswer;
 use refusals::Answer;
 
 const P: u64 = 0xfb623599da6e8127;
@@ -14,12 +14,12 @@ const K0: u64 = 0xec2802d4e0a488e9;
 const UNCHANGED: usize = 1039;
 
 // A block, or the number of its refusal.
-fn print_block(b: Block) {
+fn print_block(b: BlockAnswer) {
     match b {
-        Block::Word(w) => {
+        BlockAnswer::Word(w) => {
             io::print_hex(1, w, 16);
         }
-        Block::Refused(r) => {
+        BlockAnswer::Refused(r) => {
             io::write_all(1, b"refused ");
             io::print_decimal(1, refusals::number(r) as u64);
         }
@@ -27,10 +27,10 @@ fn print_block(b: Block) {
 }
 
 // The block that was enciphered, deciphered.
-fn back(number: u64, rounds: u64, b: Block) -> Block {
+fn back(number: u64, rounds: u64, b: BlockAnswer) -> BlockAnswer {
     match b {
-        Block::Word(w) => cipher::decipher(number, rounds, W0, K0, T, w),
-        Block::Refused(r) => Block::Refused(r),
+        BlockAnswer::Word(w) => cipher::decipher(number, rounds, W0, K0, T, w),
+        BlockAnswer::Refused(r) => BlockAnswer::Refused(r),
     }
 }
 

@@ -1,5 +1,4 @@
 -- Laws of words and their digits, a turn of each loop, and the cases of `ifLe`.
-use mathlib.Core.Bool.{Bool, true, false, false≢true}
 use mathlib.Core.Path.{_≡_, refl, sym, ap, ap₂, _∙_}
 use mathlib.Core.List.{List, [], _∷_, _++_, append-assoc, append-nil}
 use Prim.Native.Nat.{ℕ, zero, suc, _+_, _*_, _/_, _%_, _^_, _<_, _≤_, _-_}
@@ -8,15 +7,13 @@ use native.Mathlib.Numerals.{add-one, sub-one}
 use native.Mathlib.Omega.{arith}
 use mir.Syntax.{w8}
 use mir.Val.{Fits}
-use borrow.Author.Tests.{le-leb, lt-leb}
 use borrow.Rule.Slice.PartMut.{putMid}
 use lib.Arith.{digits-lt}
 use lib.Bits.{bitAnd, and-mask}
-use lib.Dec.{lit<, leb}
-use lib.ListN.{length, getD, take, drop, set, length-append, length-take}
+use lib.Dec.{lit<}
+use lib.ListN.{length, getD, take, drop, set, length-append, length-take, length-drop}
 use lib.Pow.{pow-pos, pow-mono, pow-add, mod-pow-add, shl-exact, shr-shr, high, low}
 use lib.Seq.{drop-cons, lt-length-set, getD-set-same, drop-set-lt, take-at, drop-at, drop-drop}
-use Rattle.words.specs.Cases.{ifLe, ifYes}
 use Rattle.words.specs.Digits.{wordFrom, word, digits, Digits, none, more, laid}
 
 -- ---- there and back
@@ -140,39 +137,31 @@ laid-below (suc n) f = digits-append (laid-below n f) (digits-below 8 8 (f n))
 pub mid-turn : (b d ys : List ℕ) (a k e : ℕ) → length b ≡ a → a + k ≡ e → putMid a k (b ++ drop a d) ys ≡ (b ++ ys) ++ drop e d
 mid-turn b d ys a k e h p = rw (take-at b (drop a d) a, drop-at b (drop a d) a, drop-drop, p, append-assoc)
 
+-- k bytes from the middle of a list
+pub middle : (a k e : ℕ) (l : List ℕ) → a + k ≡ e → e ≤ length l → length (take (e - a) (drop a l)) ≡ k
+middle a k e l h f = simp (length-take, length-drop) (omega arith)
+
+-- The loops that write each of n words into its own place: i are written, and the rest is as it was, d.
+pub record Laid (n : ℕ) (f : ℕ → ℕ) (d out : List ℕ) (i : ℕ) : Type 0 where
+  pub within : i ≤ n
+  pub size : length out ≡ length d
+  pub made : out ≡ laid i f ++ drop (i * 8) d
+
+pub laid-none : (n : ℕ) (f : ℕ → ℕ) (d : List ℕ) → Laid n f d d 0
+laid-none n f d = record { within = omega arith; size = refl; made = refl }
+
 -- word i goes to its place
-pub laid-turn : (f : ℕ → ℕ) (d out ys : List ℕ) (i : ℕ) → out ≡ laid i f ++ drop (i * 8) d → ys ≡ digits 8 8 (f i)
-    → putMid (i * 8) (i * 8 + 8 - i * 8) out ys ≡ laid (i + 1) f ++ drop ((i + 1) * 8) d
-laid-turn f d out ys i o y = rw (add-one, o, y) (mid-turn (laid i f) d _ (i * 8) (i * 8 + 8 - i * 8) (suc i * 8) (length-laid i f) (omega arith))
+pub laid-more : (n : ℕ) (f : ℕ → ℕ) (d out ys : List ℕ) (i w : ℕ) → n * 8 ≤ length d → Laid n f d out i → i < n
+    → ys ≡ digits 8 (length (take (i * 8 + 8 - i * 8) (drop (i * 8) out))) w → w ≡ f i → Laid n f d (putMid (i * 8) (i * 8 + 8 - i * 8) out ys) (i + 1)
+laid-more n f d out ys i w room h l y e =
+    let eight = middle (i * 8) 8 (i * 8 + 8) out refl (omega arith) in
+    let put : putMid (i * 8) (i * 8 + 8 - i * 8) out ys ≡ laid (i + 1) f ++ drop ((i + 1) * 8) d =
+    rw (add-one, h .made, y, eight, e) (mid-turn (laid i f) d _ (i * 8) (i * 8 + 8 - i * 8) (suc i * 8) (length-laid i f) (omega arith)) in
+    record {
+      within = omega arith;
+      size = ap length put ∙ simp (length-append, length-laid, length-drop) (omega arith);
+      made = put;
+    }
 
--- ---- which case an answer is
-
-pub le-case : {A : Type 0} (m n : ℕ) (a b : A) → m ≤ n → a ≡ ifLe m n a b
-unfolding ifLe
-le-case m n a b h = rw (le-leb m n h, ifLe)
-
-pub gt-case : {A : Type 0} (m n : ℕ) (a b : A) → n < m → b ≡ ifLe m n a b
-unfolding ifLe
-gt-case m n a b h = rw (lt-leb m n h, ifLe)
-
--- what holds of both cases
-pub le-either : {A : Type 0} (P : A → Type 0) (m n : ℕ) {a b : A} → P a → P b → P (ifLe m n a b)
-unfolding ifLe
-le-either P m n {a} {b} ha hb = go (leb m n)
-  where
-    go : (t : Bool) → P (elim t [ true ↦ a | false ↦ b ])
-    go true = ha
-    go false = hb
-
-pub yes-case : {A : Type 0} (t : Bool) (a b : A) → t ≡ true → a ≡ ifYes t a b
-unfolding ifYes
-yes-case t a b h = rw h
-
-pub no-case : {A : Type 0} (t : Bool) (a b : A) → t ≡ false → b ≡ ifYes t a b
-unfolding ifYes
-no-case t a b h = rw h
-
-pub both-yes : (t u : Bool) → ifYes t u false ≡ true → (t ≡ true) × (u ≡ true)
-unfolding ifYes
-both-yes true u h = (refl, h)
-both-yes false u h = absurd (false≢true h)
+pub laid-all : (n : ℕ) (f : ℕ → ℕ) (d out : List ℕ) (i : ℕ) → Laid n f d out i → n ≤ i → out ≡ laid n f ++ drop (n * 8) d
+laid-all n f d out i h l = let e : i ≡ n = omega arith in rw e at (h .made)

@@ -1,3 +1,4 @@
 pub mod Laws
 pub mod Decided
 pub mod Outcomes
+pub mod Cases

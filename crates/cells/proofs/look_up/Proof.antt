@@ -4,7 +4,7 @@ use mathlib.Core.Path.{sym, _∙_}
 use Prim.Native.Nat.{_*_, _/_, _%_, _^_}
 use native.Mathlib.Omega.{arith}
 use lib.Bits.{and-mask, mask-lt}
-use Rattle.cells.specs.Lists.{nibbles}
+use Rattle.cells.specs.Workings.{nibbles}
 use Rattle.cells.proofs.Upto.{upto-at}
 use Rattle.cells.proofs.look_up.Statement.{statement}
 use Rattle.cells.proofs.look_up.Tie as tie

@@ -5,7 +5,7 @@ use Prim.Native.Nat.{_-_, _≤_}
 use native.Mathlib.Numerals.{add-one}
 use native.Mathlib.Omega.{arith}
 use Rattle.words.specs.Digits.{_⊕_}
-use Rattle.cells.specs.Lists.{_!_, sum}
+use Rattle.words.specs.Lists.{_!_, sum}
 use Rattle.cells.specs.Cells.{entry, rotated}
 use Rattle.cells.specs.Qarma64.{entries}
 use Rattle.cells.proofs.Upto.{each2-lt}

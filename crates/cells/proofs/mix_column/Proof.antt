@@ -1,6 +1,6 @@
 -- `mix_column` meets its contract: the loop fills the four rows.
 use Prim.Native.Nat.{_-_}
-use Rattle.cells.specs.Lists.{_!_}
+use Rattle.words.specs.Lists.{_!_}
 use Rattle.cells.specs.Cells.{rowSum}
 use Rattle.cells.specs.Qarma64.{entries}
 use Rattle.cells.proofs.Fill.{Filled, fills, whole}

@@ -1,7 +1,7 @@
 -- `move_row` meets its contract: the loop fills the four cells.
 use Prim.Native.Nat.{_-_}
-use Rattle.cells.specs.Lists.{_!_}
-use Rattle.cells.specs.Qarma64.{bitMoved}
+use Rattle.words.specs.Lists.{_!_}
+use Rattle.cells.specs.Workings.{bitMoved}
 use Rattle.cells.proofs.Fill.{Filled, fills, whole}
 use Rattle.cells.proofs.move_row.Statement.{statement}
 use Rattle.cells.proofs.move_row.Tie as tie

@@ -2,7 +2,8 @@
 use borrow.Author.Needs.{needs}
 use mathlib.Core.Path.{_≡_}
 use native.Mathlib.Omega.{arith}
-use Rattle.cells.specs.Lists.{nibbles, upto}
+use Rattle.words.specs.Lists.{upto}
+use Rattle.cells.specs.Workings.{nibbles}
 use Rattle.cells.proofs.unbox_word.Statement.{statement}
 use Rattle.cells.proofs.unbox_word.Tie as tie
 

@@ -12,13 +12,13 @@ last-short c κs =
     let b = finish-bounded (now (c .before .before .before .before .before .before .before .before .before .before .before .args .line)) (p .0 .0) (c .before .before .before .before .finish .ensures) in
     omega (arith, b .said, p .2 .1)
 
-still-kept : tie.Need-sum-up-requires
+still-kept : tie.Need-close-requires
 still-kept c κs =
     let p = c .before .before .before .before .before .before .before .before .before .before .before .before .before .before .pre in
     (next-kept (p .0 .1) (finish-bounded (now (c .before .before .before .before .before .before .before .before .before .before .before .before .before .before .args .line)) (p .0 .0) (c .before .before .before .before .before .before .before .finish .ensures)), search needs)
 
 total-short : tie.Need-flush-requires-3
-total-short c κs = omega (arith, total-bounded _ (c .before .before .before .sum-up .ensures), c .before .before .before .before .before .before .before .before .before .before .before .before .before .before .before .before .before .before .pre .2 .1)
+total-short c κs = omega (arith, total-bounded _ (c .before .before .before .close .ensures), c .before .before .before .before .before .before .before .before .before .before .before .before .before .before .before .before .before .before .pre .2 .1)
 
 pub close-spec : {M : Type 1} → statement M
 close-spec =

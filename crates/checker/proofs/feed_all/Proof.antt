@@ -5,16 +5,16 @@ use Prim.Native.Nat.{_+_, _-_, _≤_}
 use mathlib.Core.Path.{_≡_}
 use native.Mathlib.Omega.{arith}
 use lib.ListN.{length}
-use Rattle.listing.specs.Pieces.{Kept}
+use Rattle.listing.specs.Chunks.{Kept}
 use Rattle.checker.proofs.feed_all.Statement.{statement}
 use Rattle.checker.proofs.feed_all.Tie as tie
 
 abbrev Inv-loop : tie.InvT-loop
-Inv-loop line₀ piece out₀ used state₀ waiting₀ from₀ line out state waiting from =
-    (length line ≡ length line₀) × (length out ≡ length out₀) × (waiting ≤ length out) × (from ≤ length piece) × Kept state × (state .lines ≤ state₀ .lines + from)
+Inv-loop line₀ chunk out₀ used state₀ waiting₀ from₀ line out state waiting from =
+    (length line ≡ length line₀) × (length out ≡ length out₀) × (waiting ≤ length out) × (from ≤ length chunk) × Kept state × (state .lines ≤ state₀ .lines + from)
 
 abbrev μ-loop : tie.MeasureT-loop
-μ-loop line₀ piece out₀ used state₀ waiting₀ from₀ line out state waiting from = length piece - from
+μ-loop line₀ chunk out₀ used state₀ waiting₀ from₀ line out state waiting from = length chunk - from
 
 loop-less : tie.Need-loop-less Inv-loop μ-loop
 loop-less c = omega (arith, c .before .before .before .before .before .before .before .before .feed-line .ensures .3 (not-false _ (c .before .before .if1 .left)))

@@ -18,18 +18,18 @@ returns c =
 added : tie.Need-add-t17
 added c =
     let a = c .before .before .before .before .before .before .before .before .before .before .before .before .before .before .before .before .before .args in
-    let b = feed-bounded (take (length (now (a .piece)) - a .from) (drop (a .from) (now (a .piece)))) (now (a .line)) (c .before .before .before .before .before .before .before .before .before .before .before .before .before .before .before .before .before .pre .0 .0) (c .before .before .before .before .before .before .feed .ensures) in
+    let b = feed-bounded (take (length (now (a .chunk)) - a .from) (drop (a .from) (now (a .chunk)))) (now (a .line)) (c .before .before .before .before .before .before .before .before .before .before .before .before .before .before .before .before .before .pre .0 .0) (c .before .before .before .before .before .before .feed .ensures) in
     record { fits = omega (arith, b .said, c .before .before .before .before .before .before .before .before .before .before .before .before .room .ensures .1) }
 
 returns-2 : tie.Need-returns-2
 returns-2 c =
     let a = c .before .before .before .before .before .before .before .before .before .before .before .before .before .before .before .before .before .args in
     let p = c .before .before .before .before .before .before .before .before .before .before .before .before .before .before .before .before .before .pre in
-    let rest = take (length (now (a .piece)) - a .from) (drop (a .from) (now (a .piece))) in
+    let rest = take (length (now (a .chunk)) - a .from) (drop (a .from) (now (a .chunk))) in
     let f = c .before .before .before .before .before .before .feed .ensures in
     let b = feed-bounded rest (now (a .line)) (p .0 .0) f in
     let taken = feed-taken rest (now (a .line)) (p .0 .0) f in
-    let size = length-drop (a .from) (now (a .piece)) in (
+    let size = length-drop (a .from) (now (a .chunk)) in (
       (next-kept (p .0 .1) b, b .lines),
       omega (arith, b .said, c .before .before .before .before .before .before .before .before .before .before .before .before .room .ensures .0),
       omega (arith, taken .0, size, p .1 .1),

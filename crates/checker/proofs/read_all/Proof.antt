@@ -1,10 +1,10 @@
--- `read_all` meets its contract: the reads count down, each brings at most as many lines as a piece has bytes, and what waits stays within the output.
+-- `read_all` meets its contract: the reads count down, each brings at most as many lines as a chunk has bytes, and what waits stays within the output.
 use borrow.Author.Needs.{needs}
 use Prim.Native.Nat.{_+_, _*_, _^_, _≤_}
 use mathlib.Core.Path.{_≡_}
 use native.Mathlib.Omega.{arith}
 use lib.ListN.{length}
-use Rattle.listing.specs.Pieces.{Kept}
+use Rattle.listing.specs.Chunks.{Kept}
 use Rattle.checker.proofs.read_all.Statement.{statement}
 use Rattle.checker.proofs.read_all.Tie as tie
 

@@ -1,7 +1,7 @@
 -- `encipher` meets its contract.
 use borrow.Author.Needs.{needs}
 use mathlib.Core.Path.{ap, _∙_}
-use Rattle.cipher.specs.Words.{ran}
+use Rattle.cipher.specs.Words.{blockCall}
 use Rattle.cipher.specs.declared.Schedule.{Schedule}
 use Rattle.cipher.proofs.Demands.{schedule-below}
 use Rattle.cipher.proofs.encipher.Statement.{statement}
@@ -13,4 +13,4 @@ encipher-spec =
     (tie.spec
     (λ c κs. search needs)
     (λ c κs. rw (c .of-key .ensures) (schedule-below 4 _ _ _ _))
-    (λ c. let args = c .before .before .args in c .run-within .ensures ∙ ap (λ (s : Schedule). ran (args .number) (args .rounds) s (args .tweak) (args .block)) (c .before .of-key .ensures)))
+    (λ c. let args = c .before .before .args in c .block-call .ensures ∙ ap (λ (s : Schedule). blockCall (args .number) (args .rounds) s (args .tweak) (args .block)) (c .before .of-key .ensures)))

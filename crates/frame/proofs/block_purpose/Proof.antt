@@ -1,7 +1,7 @@
 -- `block_purpose` meets its contract: the test gives the case.
 use borrow.Author.Needs.{needs}
 use native.Mathlib.Omega.{arith}
-use Rattle.words.proofs.Laws.{le-case, gt-case}
+use Rattle.words.proofs.Cases.{le-case, gt-case}
 use Rattle.frame.specs.Blocks.{purpose}
 use Rattle.frame.proofs.block_purpose.Statement.{statement}
 use Rattle.frame.proofs.block_purpose.Tie as tie

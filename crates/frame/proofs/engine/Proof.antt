@@ -18,5 +18,5 @@ engine-spec =
     (λ c κs. search needs)
     (λ c κs. search needs)
     (λ c κs. ((omega arith, (omega arith, omega arith)), (c .before .before .pre, (rw (c .before .of .ensures) (cut-below 4 _), rw (c .of2 .ensures) (cut-below 4 _)))))
-    (λ c κs. rw (c .run .ensures, c .before .before .of .ensures, c .before .of2 .ensures) (engine-below lawful64 (c .before .before .before .pre) (omega arith) _ (cut-below 4 _) (cut-below 4 _)))
-    (λ c. c .word .ensures ∙ ap (joined 4) (c .before .run .ensures ∙ ap₂ (engine qarma64 1 7 (c .before .before .before .before .args .s)) (c .before .before .before .of .ensures) (c .before .before .of2 .ensures))))
+    (λ c κs. rw (c .engine .ensures, c .before .before .of .ensures, c .before .of2 .ensures) (engine-below lawful64 (c .before .before .before .pre) (omega arith) _ (cut-below 4 _) (cut-below 4 _)))
+    (λ c. c .word .ensures ∙ ap (joined 4) (c .before .engine .ensures ∙ ap₂ (engine qarma64 1 7 (c .before .before .before .before .args .s)) (c .before .before .before .of .ensures) (c .before .before .of2 .ensures))))

@@ -4,7 +4,8 @@ use Prim.Native.Nat.{_-_, _*_, _%_}
 use mathlib.Core.Path.{sym, _∙_}
 use native.Mathlib.Omega.{arith}
 use lib.Pow.{pow-pos}
-use Rattle.words.proofs.Laws.{le-case, gt-case, power}
+use Rattle.words.proofs.Laws.{power}
+use Rattle.words.proofs.Cases.{le-case, gt-case}
 use Rattle.frame.proofs.Fills.{fill-bits}
 use Rattle.frame.proofs.fill_right.Statement.{statement}
 use Rattle.frame.proofs.fill_right.Tie as tie

@@ -1,10 +1,10 @@
 -- `open_blocks` meets its contract: the first i blocks are deciphered.
 use borrow.Author.Needs.{needs}
-use mathlib.Core.Path.{_≡_, refl, _∙_}
+use mathlib.Core.Path.{_≡_, refl}
 use Prim.Native.Nat.{_+_, _-_, _/_, _<_, _≤_}
 use native.Mathlib.Omega.{arith}
 use lib.ListN.{length, take, length-set}
-use Rattle.cells.specs.Lists.{upto}
+use Rattle.words.specs.Lists.{upto}
 use Rattle.frame.specs.Frames.{openedBlock}
 use Rattle.frame.proofs.Laws.{upto-turn}
 use Rattle.frame.proofs.open_blocks.Statement.{statement}

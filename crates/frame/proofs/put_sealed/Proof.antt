@@ -1,11 +1,11 @@
 -- `put_sealed` meets its contract: the blocks, then the tag.
 use borrow.Author.Needs.{needs}
-use mathlib.Core.Path.{_≡_, ap, _∙_}
-use Prim.Native.Nat.{ℕ, _+_, _-_, _*_}
+use mathlib.Core.Path.{refl, ap, _∙_}
+use Prim.Native.Nat.{ℕ, _+_, _*_}
 use native.Mathlib.Omega.{arith}
-use lib.ListN.{length, take, drop, length-take, length-drop}
+use lib.ListN.{length}
 use Rattle.words.specs.Digits.{digits, laid}
-use Rattle.words.proofs.Laws.{length-laid}
+use Rattle.words.proofs.Laws.{length-laid, middle}
 use Rattle.frame.specs.Blocks.{blocks}
 use Rattle.frame.specs.Frames.{sealedBlock, tagOf, sealedBytes}
 use Rattle.frame.proofs.Laws.{put-behind}
@@ -34,7 +34,7 @@ put-sealed-spec =
     let put = c .before .before .before .before .before .before .before .before in
     let out = put .put-blocks .last .1 .1 .1 .0 in
     let f = sealedBlock (args .s) 0 (args .serial) (args .message .now) in
-    let eight : length (take (n * 8 + 8 - n * 8) (drop (n * 8) out)) ≡ 8 = simp (length-take, length-drop) (omega arith) in
+    let eight = middle (n * 8) 8 (n * 8 + 8) out refl (omega arith) in
     let made = c .before .before .before .before .tag .ensures ∙ ap (tagOf (args .s) (args .serial) (args .label .now) (length (args .message .now))) (c .before .before .before .before .before .sum-blocks .ensures) in
     let bytes = c .before .before .write .ensures ∙ ap (λ (k : ℕ). digits 8 k (c .before .before .before .before .tag .result)) eight ∙ ap (digits 8 8) made in
     put-behind n (laid n f) _ (args .out .now) out (c .before .before .write .last .0) (length-laid n f) (put .put-blocks .ensures) bytes))

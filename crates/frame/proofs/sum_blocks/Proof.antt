@@ -6,7 +6,7 @@ use native.Mathlib.Numerals.{add-one}
 use native.Mathlib.Omega.{arith}
 use lib.ListN.{length}
 use Rattle.words.specs.Digits.{_⊕_}
-use Rattle.cells.specs.Lists.{sum}
+use Rattle.words.specs.Lists.{sum}
 use Rattle.frame.specs.Blocks.{block}
 use Rattle.frame.proofs.sum_blocks.Statement.{statement}
 use Rattle.frame.proofs.sum_blocks.Tie as tie

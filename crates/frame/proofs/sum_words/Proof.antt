@@ -5,7 +5,7 @@ use native.Mathlib.Numerals.{add-one}
 use native.Mathlib.Omega.{arith}
 use lib.ListN.{length, getD}
 use Rattle.words.specs.Digits.{_⊕_}
-use Rattle.cells.specs.Lists.{sum}
+use Rattle.words.specs.Lists.{sum}
 use Rattle.frame.proofs.sum_words.Statement.{statement}
 use Rattle.frame.proofs.sum_words.Tie as tie
 

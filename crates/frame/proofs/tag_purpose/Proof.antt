@@ -1,6 +1,6 @@
 -- `tag_purpose` meets its contract: the test gives the case.
 use native.Mathlib.Omega.{arith}
-use Rattle.words.proofs.Laws.{le-case, gt-case}
+use Rattle.words.proofs.Cases.{le-case, gt-case}
 use Rattle.frame.specs.Blocks.{tagPurpose}
 use Rattle.frame.proofs.tag_purpose.Statement.{statement}
 use Rattle.frame.proofs.tag_purpose.Tie as tie

@@ -1,8 +1,8 @@
 -- `give_block` meets its contract: the answer of `give`, or the refusal, as a number.
 use borrow.Author.Needs.{needs}
-use mathlib.Core.Path.{ap, _∙_}
+use mathlib.Core.Path.{ap}
 use Prim.Native.Nat.{ℕ}
-use Rattle.kkurimyeot.specs.Calls.{returning}
+use Rattle.kkurimyeot.proofs.Returns.{returns}
 use Rattle.kkurimyeot.proofs.give_block.Statement.{statement}
 use Rattle.kkurimyeot.proofs.give_block.Tie as tie
 
@@ -17,5 +17,5 @@ give-block-spec =
     (λ c. search needs)
     (λ c κs. search needs)
     (λ c. search needs)
-    (λ c. rw (c .before .before .before .before .before .before .before .answer .given .1) (ap (λ (n : ℕ). (n, c .before .before .before .give .last .1 .0)) (c .returned .ensures) ∙ ap returning (c .before .before .before .give .ensures)))
+    (λ c. rw (c .before .before .before .before .before .before .before .answer .given .1) (returns (c .returned .ensures) (c .before .before .before .give .ensures)))
     (λ c. rw (c .before .before .answer2 .given .1) (ap (λ (n : ℕ). (n, c .before .before .before .before .before .args .out .now)) (c .returned2 .ensures))))

@@ -1,8 +1,6 @@
 -- `give_words` meets its contract: the answer of `give`, as a number.
 use borrow.Author.Needs.{needs}
-use mathlib.Core.Path.{ap, _∙_}
-use Prim.Native.Nat.{ℕ}
-use Rattle.kkurimyeot.specs.Calls.{returning}
+use Rattle.kkurimyeot.proofs.Returns.{returns}
 use Rattle.kkurimyeot.proofs.give_words.Statement.{statement}
 use Rattle.kkurimyeot.proofs.give_words.Tie as tie
 
@@ -14,4 +12,4 @@ give-words-spec =
     (λ c κs. search needs)
     (λ c κs. search needs)
     (λ c. search needs)
-    (λ c. ap (λ (n : ℕ). (n, c .before .before .before .give .last .1 .0)) (c .returned .ensures) ∙ ap returning (c .before .before .before .give .ensures)))
+    (λ c. returns (c .returned .ensures) (c .before .before .before .give .ensures)))

@@ -1,7 +1,7 @@
 -- `kk_encipher` meets its contract: what the cipher answers, through C.
 use borrow.Author.Needs.{needs}
 use mathlib.Core.Path.{ap, _∙_}
-use Rattle.cipher.specs.declared.Block.{Block}
+use Rattle.cipher.specs.declared.BlockAnswer.{BlockAnswer}
 use Rattle.kkurimyeot.specs.Calls.{blockGiven, returning}
 use Rattle.kkurimyeot.proofs.kk_encipher.Statement.{statement}
 use Rattle.kkurimyeot.proofs.kk_encipher.Tie as tie
@@ -15,4 +15,4 @@ kk-encipher-spec =
     (λ c. search needs)
     (λ c.
     let out = c .before .before .before .before .before .before .args .out .now in
-    c .before .before .give-block .ensures ∙ ap (λ (b : Block). returning (blockGiven b out)) (c .before .before .before .before .encipher .ensures)))
+    c .before .before .give-block .ensures ∙ ap (λ (b : BlockAnswer). returning (blockGiven b out)) (c .before .before .before .before .encipher .ensures)))

@@ -1,8 +1,6 @@
 -- `kk_open` meets its contract: what opening answers, as a number.
 use borrow.Author.Needs.{needs}
-use mathlib.Core.Path.{ap, _∙_}
-use Prim.Native.Nat.{ℕ}
-use Rattle.kkurimyeot.specs.Calls.{returning}
+use Rattle.kkurimyeot.proofs.Returns.{returns}
 use Rattle.kkurimyeot.proofs.kk_open.Statement.{statement}
 use Rattle.kkurimyeot.proofs.kk_open.Tie as tie
 
@@ -13,4 +11,4 @@ kk-open-spec =
     (λ c κs. search needs)
     (λ c κs. search needs)
     (λ c. search needs)
-    (λ c. ap (λ (n : ℕ). (n, c .before .before .before .open .last .1 .1 .1 .1 .1 .1 .0)) (c .returned .ensures) ∙ ap returning (c .before .before .before .open .ensures)))
+    (λ c. returns (c .returned .ensures) (c .before .before .before .open .ensures)))

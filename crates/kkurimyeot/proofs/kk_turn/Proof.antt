@@ -2,7 +2,7 @@
 use borrow.Author.Needs.{needs}
 use mathlib.Core.Path.{ap, _∙_}
 use Rattle.cipher.specs.declared.Words.{Words}
-use Rattle.kkurimyeot.specs.Calls.{given, fourWords, returning}
+use Rattle.kkurimyeot.specs.Calls.{wordsGiven, fourWords, returning}
 use Rattle.kkurimyeot.proofs.kk_turn.Statement.{statement}
 use Rattle.kkurimyeot.proofs.kk_turn.Tie as tie
 
@@ -15,4 +15,4 @@ kk-turn-spec =
     (λ c. search needs)
     (λ c.
     let out = c .before .before .before .before .before .before .args .out .now in
-    c .before .before .give-words .ensures ∙ ap (λ (b : Words). returning (given (fourWords b) out)) (c .before .before .before .before .turn-words .ensures)))
+    c .before .before .give-words .ensures ∙ ap (λ (b : Words). returning (wordsGiven (fourWords b) out)) (c .before .before .before .before .turn-words .ensures)))

@@ -1,10 +1,10 @@
 -- `line::bytes_at` meets its contract. The invariant: the first i bytes are read.
 use borrow.Author.Needs.{needs}
-use mathlib.Core.Path.{_≡_, refl, _∙_}
+use mathlib.Core.Path.{_≡_, refl}
 use Prim.Native.Nat.{_≤_, _-_, _*_, _+_}
 use native.Mathlib.Omega.{arith}
 use lib.ListN.{length, take, length-set}
-use Rattle.cells.specs.Lists.{upto}
+use Rattle.words.specs.Lists.{upto}
 use Rattle.frame.proofs.Laws.{upto-turn}
 use Rattle.line.specs.Reader.{numberAt}
 use Rattle.line.proofs.Bytes.{bytes-read}
@@ -28,7 +28,7 @@ bytes-at-spec =
     (λ c. search needs)
     (λ c. search needs)
     (λ c κs. search needs)
-    (λ c. record { fits = rw (c .number .ensures .0) (c .before .before .before .before .before .pre .1 (c .before .before .loop .i) (omega arith)) })
+    (λ c. record { fits = rw (c .number-at .ensures .0) (c .before .before .before .before .before .pre .1 (c .before .before .loop .i) (omega arith)) })
     (λ c. search needs)
     (λ c. search needs)
     (λ c. simp length-set (omega arith))
@@ -36,6 +36,6 @@ bytes-at-spec =
     let args = c .before .before .before .before .before .args in
     let loop = c .before .before .loop in
     let inv = loop .inv in
-    (simp length-set (omega arith), simp length-set (inv .1), upto-turn (λ k. numberAt (args .s .now) (args .a + 2 * k) 2) (loop .out) (loop .i) _ (omega arith) (inv .2) (c .number .ensures .0)))
+    (simp length-set (omega arith), simp length-set (inv .1), upto-turn (λ k. numberAt (args .s .now) (args .a + 2 * k) 2) (loop .out) (loop .i) _ (omega arith) (inv .2) (c .number-at .ensures .0)))
     (λ c. c .before .loop .inv .1)
     (λ c. bytes-read _ _ _ (c .before .loop .i) (length (c .before .before .before .before .args .out .now)) (omega arith) (c .before .loop .inv .1) (c .before .loop .inv .2)))

@@ -7,7 +7,8 @@ use borrow.Author.Needs.{needs}
 use borrow.Author.Tests.{not-true, not-false}
 use lib.ListN.{length}
 use Rattle.line.specs.Reader.{place, endOf}
-use Rattle.line.proofs.Places.{all-stand, place-farther, place-here, place-small, fits-late}
+use Rattle.line.proofs.Places.{all-stand, place-farther, place-here, fits-late}
+use Rattle.line.proofs.Ends.{place-small}
 use Rattle.line.proofs.first_place.Statement.{statement}
 use Rattle.line.proofs.first_place.Tie as tie
 

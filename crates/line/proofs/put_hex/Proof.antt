@@ -5,8 +5,9 @@ use mathlib.Core.List.{_++_}
 use Prim.Native.Nat.{ℕ, _≤_, _-_, _*_, _+_}
 use native.Mathlib.Omega.{arith}
 use lib.ListN.{length, getD, take, drop}
+use Rattle.words.proofs.Laws.{middle}
 use Rattle.line.specs.Line.{hexDigits, hex}
-use Rattle.line.proofs.Writing.{middle, hex-turn, hex-all}
+use Rattle.line.proofs.Writing.{hex-turn, hex-all}
 use Rattle.line.proofs.put_hex.Statement.{statement}
 use Rattle.line.proofs.put_hex.Tie as tie
 

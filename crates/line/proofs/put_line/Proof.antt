@@ -10,8 +10,14 @@ use Rattle.line.proofs.put_line.Tie as tie
 
 made : tie.Need-returns
 made c =
-    let args = c .before .before .before .before .before .before .before .before .before .before .before .before .before .before .before .args in
-    line-put (args .out .now) (c .before .before .before .before .before .before .before .before .before .before .put-head .last .1 .1 .1 .0) (c .before .before .before .before .before .before .put-hex .last .1 .0) (c .before .before .put-hex2 .last .1 .0) (args .label .now) (args .sealed .now) (args .serial) (args .n) (20 + 2 * length (args .label .now)) (20 + 2 * length (args .label .now) + 2 * length (args .sealed .now)) (c .before .before .before .before .before .before .before .before .before .before .before .before .before .before .before .pre .1) refl refl (c .before .before .before .before .before .before .before .before .before .before .put-head .ensures) (c .before .before .before .before .before .before .put-hex .ensures) (c .before .before .put-hex2 .ensures)
+    let sealed = c .before .before in
+    let label = sealed .before .before .before .before in
+    let head = label .before .before .before .before in
+    let start = head .before .before .before .before .before in
+    let args = start .args in
+    let at = 20 + 2 * length (args .label .now) in
+    line-put (args .out .now) (head .put-head .last .1 .1 .1 .0) (label .put-hex .last .1 .0) (sealed .put-hex2 .last .1 .0) (args .label .now) (args .sealed .now) (args .serial) (args .n) at (at + 2 * length (args .sealed .now)) (start .pre .1)
+    refl refl (head .put-head .ensures) (label .put-hex .ensures) (sealed .put-hex2 .ensures)
 
 pub put-line-spec : {M : Type 1} → statement M
 put-line-spec =
@@ -34,5 +40,8 @@ put-line-spec =
     (λ c. search needs)
     (λ c κs. search needs)
     (λ c. search needs)
-    (λ c. ap length (made c) ∙ line-behind (c .before .before .before .before .before .before .before .before .before .before .before .before .before .before .before .args .out .now) (frameOf (c .before .before .before .before .before .before .before .before .before .before .before .before .before .before .before .args .serial) (c .before .before .before .before .before .before .before .before .before .before .before .before .before .before .before .args .label .now) (c .before .before .before .before .before .before .before .before .before .before .before .before .before .before .before .args .n) (c .before .before .before .before .before .before .before .before .before .before .before .before .before .before .before .args .sealed .now)) _ refl (c .before .before .before .before .before .before .before .before .before .before .before .before .before .before .before .pre .1))
+    (λ c.
+    let start = c .before .before .before .before .before .before .before .before .before .before .before .before .before .before .before in
+    let args = start .args in
+    ap length (made c) ∙ line-behind (args .out .now) (frameOf (args .serial) (args .label .now) (args .n) (args .sealed .now)) _ refl (start .pre .1))
     made)

@@ -30,4 +30,4 @@ read-spec =
     (λ c κs. search needs)
     (λ c. search needs)
     (λ c. search needs)
-    (λ c. so _ _ (read-good _ (c .before .before .before .before .before .before .first-place .result) _ _ _ (c .before .before .before .before .before .before .first-place .ensures .0) (omega arith) (omega arith) (c .before .number .ensures .0) (c .before .before .label-length .ensures .0) (c .message-length .ensures .0))))
+    (λ c. so _ _ (read-good _ (c .before .before .before .before .before .before .first-place .result) _ _ _ (c .before .before .before .before .before .before .first-place .ensures .0) (omega arith) (omega arith) (c .before .number-at .ensures .0) (c .before .before .label-length .ensures .0) (c .message-length .ensures .0))))

@@ -1,7 +1,7 @@
 -- `line::refuse` meets its contract: each variant is its case. Assumes nothing.
 use mathlib.Core.Path.{ap, sym}
 use borrow.Author.Needs.{needs}
-use Rattle.line.specs.Calls.{refusedAs}
+use Rattle.line.specs.Workings.{refusedAs}
 use Rattle.line.proofs.refuse.Statement.{statement}
 use Rattle.line.proofs.refuse.Tie as tie
 

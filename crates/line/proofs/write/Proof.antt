@@ -6,7 +6,9 @@ use Prim.Native.Nat.{ℕ}
 use native.Mathlib.Omega.{arith}
 use lib.ListN.{length}
 use lib.Seq.{length-take-le}
-use Rattle.line.specs.Calls.{lineGiven}
+use Rattle.refusals.specs.Refusals.{giving}
+use Rattle.line.specs.Line.{lineOf}
+use Rattle.line.specs.Calls.{frameOf}
 use Rattle.line.proofs.Bytes.{taken-most}
 use Rattle.line.proofs.Calls.{sealing-wrote, sealing-refused, writes}
 use Rattle.line.proofs.write.Statement.{statement}
@@ -36,5 +38,5 @@ write-spec =
     let args = c .before .before .before .before .before .before .before .before .before .before .before .before .before .before .args in
     let told = sealing-wrote _ _ _ _ _ _ (omega arith) _ _ _ (c .before .before .before .before .before .before .count .given .1) (c .before .before .before .before .before .before .before .before .before .seal .ensures) in
     c .before .before .give-line .ensures
-    ∙ ap (λ (x : List ℕ). lineGiven (args .serial) (args .label .now) (length (args .message .now)) x (args .out .now)) (told .bytes)
+    ∙ ap (λ (x : List ℕ). giving (lineOf (frameOf (args .serial) (args .label .now) (length (args .message .now)) x)) (args .out .now)) (told .bytes)
     ∙ writes (args .w0) (args .k0) (args .serial) (args .label .now) (args .message .now) (args .out .now) (told .within)))

@@ -1,9 +1,9 @@
 -- `listing::feed` meets its contract: a line that ended, or more bytes of one that has not.
 use borrow.Author.Needs.{needs}
-use mathlib.Core.Path.{sym}
+use mathlib.Core.Path.{refl, sym}
 use native.Mathlib.Omega.{arith}
 use lib.Seq.{length-take-le}
-use Rattle.listing.proofs.Gathering.{feeds-ended, feeds-more}
+use Rattle.listing.proofs.Texts.{nothing-appended}
 use Rattle.listing.proofs.feed.Statement.{statement}
 use Rattle.listing.proofs.feed.Tie as tie
 
@@ -17,6 +17,8 @@ feed-spec =
     (λ c κs. search needs)
     (λ c. search needs)
     (λ c. search needs)
-    (λ c. feeds-ended _ _ _ _ _ (c .before .before .before .before .before .before .before .before .before .gather .ensures .0) _ _ (c .before .before .before .before .before .before .if1 .taken) (c .before .before .before .end-line .ensures))
+    (λ c.
+    let end = c .before .before .before .end-line .ensures in
+    rw (← c .before .before .before .before .before .before .before .before .before .gather .ensures .0, c .before .before .before .before .before .before .if1 .taken) (record { taken = refl; state = end .state; line = refl; text = end .text }))
     (λ c. search needs)
-    (λ c. feeds-more _ _ _ _ _ (c .before .before .before .gather .ensures .0) (c .if1 .left)))
+    (λ c. rw (← c .before .before .before .gather .ensures .0, c .if1 .left) (record { taken = refl; state = refl; line = refl; text = nothing-appended _ })))

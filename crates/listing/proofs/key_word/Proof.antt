@@ -1,6 +1,6 @@
 -- `listing::key_word` meets its contract: after i turns v is the number of the first i digits.
 use borrow.Author.Needs.{needs}
-use Prim.Native.Nat.{_≤_, _-_, _+_, _*_}
+use Prim.Native.Nat.{_≤_, _-_}
 use mathlib.Core.Path.{_≡_, sym}
 use native.Mathlib.Omega.{arith}
 use Rattle.line.specs.Reader.{numberAt}

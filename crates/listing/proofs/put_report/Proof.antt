@@ -1,8 +1,5 @@
 -- `listing::put_report` meets its contract: the answer picks the report.
 use borrow.Author.Needs.{needs}
-use mathlib.Core.Path.{ap, sym}
-use Rattle.listing.specs.Listing.{report}
-use Rattle.listing.proofs.Texts.{same-text}
 use Rattle.listing.proofs.put_report.Statement.{statement}
 use Rattle.listing.proofs.put_report.Tie as tie
 
@@ -15,6 +12,6 @@ put-report-spec =
     (λ c. search needs)
     (λ c κs. search needs)
     (λ c. search needs)
-    (λ c. same-text (ap (report (c .before .before .before .before .before .before .before .before .args .x)) (sym (c .before .before .before .before .before .a .given .1))) (c .before .before .put-opened .ensures))
+    (λ c. rw (c .before .before .before .before .before .a .given .1) (c .before .before .put-opened .ensures))
     (λ c. search needs)
-    (λ c. same-text (ap (report (c .before .before .before .before .before .before .before .before .args .x)) (sym (c .before .before .before .before .before .a2 .given .1))) (c .before .before .put-refused .ensures)))
+    (λ c. rw (c .before .before .before .before .before .a2 .given .1) (c .before .before .put-refused .ensures)))

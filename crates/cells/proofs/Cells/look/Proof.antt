@@ -2,8 +2,9 @@
 use mathlib.Core.Path.{ap}
 use mathlib.Core.List.{List}
 use Prim.Native.Nat.{ℕ, _-_}
-use Rattle.cells.specs.Lists.{_!_, nibbles}
+use Rattle.words.specs.Lists.{_!_}
 use Rattle.cells.specs.Cells.{cell, looked}
+use Rattle.cells.specs.Workings.{nibbles}
 use Rattle.cells.proofs.Fill.{Filled, fills, whole}
 use Rattle.cells.proofs.Cells.look.Statement.{statement}
 use Rattle.cells.proofs.Cells.look.Tie as tie

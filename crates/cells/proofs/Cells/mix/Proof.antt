@@ -1,9 +1,10 @@
 -- `Cells::mix` meets its contract: the definition computes to these columns, transposed.
 use borrow.Author.Needs.{needs}
 use mathlib.Core.Path.{ap, _∙_}
-use Rattle.cells.specs.Lists.{upto}
-use Rattle.cells.specs.Cells.{ofRows, transposed, mixedColumn, mixedBy}
+use Rattle.words.specs.Lists.{upto}
+use Rattle.cells.specs.Cells.{mixedColumn, mixedBy}
 use Rattle.cells.specs.Qarma64.{entries}
+use Rattle.cells.specs.Workings.{ofRows, transposed}
 use Rattle.cells.proofs.Laws.{four}
 use Rattle.cells.proofs.Cells.mix.Statement.{statement}
 use Rattle.cells.proofs.Cells.mix.Tie as tie

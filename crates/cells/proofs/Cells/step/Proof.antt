@@ -2,9 +2,9 @@
 use borrow.Author.Needs.{needs}
 use mathlib.Core.Path.{ap, _∙_}
 use mathlib.Core.List.{[], _∷_}
-use Rattle.cells.specs.Lists.{upto}
-use Rattle.cells.specs.Cells.{ofRows, picked, onSeven}
-use Rattle.cells.specs.Qarma64.{movedRow}
+use Rattle.words.specs.Lists.{upto}
+use Rattle.cells.specs.Cells.{picked, onSeven}
+use Rattle.cells.specs.Workings.{ofRows, movedRow}
 use Rattle.cells.proofs.Laws.{four}
 use Rattle.cells.proofs.Cells.step.Statement.{statement}
 use Rattle.cells.proofs.Cells.step.Tie as tie

@@ -15,5 +15,5 @@ of-key-spec =
     (λ c κs. search needs)
     (λ c κs. search needs)
     (λ c.
-    let w1 = c .before .before .of2 .ensures ∙ ap (cut 4) (c .before .before .before .outer-word .ensures) in
+    let w1 = c .before .before .of2 .ensures ∙ ap (cut 4) (c .before .before .before .w1-from .ensures) in
     λ i. record { w0 = c .before .before .before .before .of .ensures i; w1 = w1 i; k0 = c .before .of3 .ensures i; k1 = c .of4 .ensures i }))

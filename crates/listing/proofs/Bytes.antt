@@ -1,0 +1,100 @@
+-- Byte by byte: fed from the start with all the bytes of an input, and closed, the listing.
+use Prim.Native.Nat.{ℕ}
+use mathlib.Core.Bool.{cond}
+use mathlib.Core.Path.{_≡_, refl, sym, ap, _∙_}
+use mathlib.Core.List.{List, [], _∷_, _++_, append-assoc, append-nil}
+use borrow.Author.Tests.{eq-eqb, ne-eqb}
+use lib.Dec.{eqb}
+use lib.Seq.{append-snoc}
+use Rattle.words.proofs.Cases.{by-eq}
+use Rattle.listing.specs.Listing.{linesOf, listing}
+use Rattle.listing.specs.Chunks.{ending, closing}
+use Rattle.listing.specs.declared.Lister.{Lister}
+use Rattle.listing.proofs.Lines.{rest, start, rest-all}
+
+-- the state, the bytes of the line that has not ended, and what has been printed
+pub record Sofar : Type 0 where
+  pub state : Lister
+  pub part : List ℕ
+  pub said : List ℕ
+
+abbrev pub began : Sofar
+began = record { state = start; part = []; said = [] }
+
+abbrev pub ended : Sofar → List ℕ → Sofar
+ended st l = record { state = ending (st .state) l .0; part = []; said = st .said ++ ending (st .state) l .1 }
+
+abbrev pub longer : Sofar → List ℕ → Sofar
+longer st l = record { state = st .state; part = l; said = st .said }
+
+unfoldable pub step : Sofar → ℕ → Sofar
+step st b = cond (eqb b 10) (ended st (st .part ++ b ∷ [])) (longer st (st .part ++ b ∷ []))
+
+unfoldable pub fed : Sofar → List ℕ → Sofar
+fed st [] = st
+fed st (b ∷ s) = fed (step st b) s
+
+pub fed-append : (st : Sofar) (x y : List ℕ) → fed st (x ++ y) ≡ fed (fed st x) y
+unfolding fed
+fed-append st [] y = refl
+fed-append st (b ∷ x) y = fed-append (step st b) x y
+
+-- all that is printed, if the input ends here
+abbrev pub allAs : Sofar → List ℕ → List ℕ
+allAs st [] = st .said ++ closing (st .state)
+allAs st (b ∷ p) = (st .said ++ ending (st .state) (b ∷ p) .1) ++ closing (ending (st .state) (b ∷ p) .0)
+
+abbrev NoEnd : List ℕ → Type 0
+NoEnd [] = Unit
+NoEnd (b ∷ p) = (b ≡ 10 → ⊥) × NoEnd p
+
+no-end-snoc : (p : List ℕ) (b : ℕ) → NoEnd p → (b ≡ 10 → ⊥) → NoEnd (p ++ b ∷ [])
+no-end-snoc [] b n h = (h, tt)
+no-end-snoc (x ∷ p) b n h = (n .0, no-end-snoc p b (n .1) h)
+
+line-ended : (p x : List ℕ) → NoEnd p → linesOf (p ++ 10 ∷ x) ≡ (p ++ 10 ∷ []) ∷ linesOf x
+unfolding linesOf
+line-ended [] x n = refl
+line-ended (b ∷ p) x n = rw (ne-eqb b 10 (n .0), line-ended p x (n .1))
+
+line-open : (b : ℕ) (p : List ℕ) → NoEnd (b ∷ p) → linesOf (b ∷ p) ≡ (b ∷ p) ∷ []
+unfolding linesOf
+line-open b [] n = rw (ne-eqb b 10 (n .0))
+line-open b (x ∷ p) n = rw (ne-eqb b 10 (n .0), line-open x p (n .1))
+
+pub step-ended : (st : Sofar) (b : ℕ) → b ≡ 10 → step st b ≡ ended st (st .part ++ b ∷ [])
+unfolding step
+step-ended st b e = simp (eq-eqb b 10 e)
+
+pub step-longer : (st : Sofar) (b : ℕ) → (b ≡ 10 → ⊥) → step st b ≡ longer st (st .part ++ b ∷ [])
+unfolding step
+step-longer st b e = simp (ne-eqb b 10 e)
+
+all-open : (st : Sofar) (p : List ℕ) → NoEnd p → allAs st p ≡ st .said ++ rest (st .state) (linesOf p)
+unfolding linesOf
+all-open st [] n = refl
+all-open st (b ∷ p) n =
+    append-assoc (st .said) (ending (st .state) (b ∷ p) .1) (closing (ending (st .state) (b ∷ p) .0))
+    ∙ ap (λ (ls : List (List ℕ)). st .said ++ rest (st .state) ls) (sym (line-open b p n))
+
+reckoned : (s : List ℕ) (st : Sofar) → NoEnd (st .part) → allAs (fed st s) (fed st s .part) ≡ st .said ++ rest (st .state) (linesOf (st .part ++ s))
+unfolding fed
+reckoned [] st n = all-open st (st .part) n ∙ ap (λ (p : List ℕ). st .said ++ rest (st .state) (linesOf p)) (sym (append-nil (st .part)))
+reckoned (b ∷ s) st n =
+    by-eq b 10
+    (λ e.
+    let l : List ℕ = st .part ++ b ∷ [] in
+    ap (λ (x : Sofar). allAs (fed x s) (fed x s .part)) (step-ended st b e)
+    ∙ reckoned s (ended st l) tt
+    ∙ append-assoc (st .said) (ending (st .state) l .1) (rest (ending (st .state) l .0) (linesOf s))
+    ∙ ap (λ (x : ℕ). st .said ++ rest (st .state) ((st .part ++ x ∷ []) ∷ linesOf s)) e
+    ∙ ap (λ (ls : List (List ℕ)). st .said ++ rest (st .state) ls) (sym (line-ended (st .part) s n))
+    ∙ ap (λ (x : ℕ). st .said ++ rest (st .state) (linesOf (st .part ++ x ∷ s))) (sym e))
+    (λ e.
+    ap (λ (x : Sofar). allAs (fed x s) (fed x s .part)) (step-longer st b e)
+    ∙ reckoned s (longer st (st .part ++ b ∷ [])) (no-end-snoc (st .part) b n e)
+    ∙ ap (λ (x : List ℕ). st .said ++ rest (st .state) (linesOf x)) (append-snoc (st .part) b s))
+
+-- fed from the start with all the bytes of an input, and closed: its listing
+pub reckons : (s : List ℕ) → allAs (fed began s) (fed began s .part) ≡ listing s
+reckons s = reckoned s began tt ∙ rest-all (linesOf s)
