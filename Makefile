@@ -20,8 +20,9 @@ SECOND := build/native/second
 export BINUTILS := x86_64-linux-gnu-
 endif
 
-# One unit: how fast the second program is must not hang on how the compiler cuts it up.
-RUST = $(RUSTC) --edition 2021 -C opt-level=3 -C codegen-units=1
+# One unit: how fast the second program is must not hang on how the compiler cuts it up. rustc looks in
+# MAKEFLAGS for other processes to share the cores with.
+RUST = MAKEFLAGS= $(RUSTC) --edition 2021 -C opt-level=3 -C codegen-units=1
 LIBRARY = -L native=$(@D) -l static=kkurimyeot
 C99 = $(CC) -std=c99 -pedantic -Wall -Wextra -Werror
 
@@ -29,9 +30,16 @@ C99 = $(CC) -std=c99 -pedantic -Wall -Wextra -Werror
 PREFIX ?= /usr/local
 RELEASE = 0.1.0
 
-.PHONY: help run example test bench install setup clean always
-.NOTPARALLEL:
+# The longest first.
+TESTS = compare checker abuse refused loader watched unit calls example first install
+
+.PHONY: help run example check test tests $(TESTS:%=test-%) times bench install setup clean always
 .SECONDARY:
+
+# One at a time, but for the tests.
+ifndef TWO
+.NOTPARALLEL:
+endif
 
 help: ## print this list
 	@sed -n 's/^\([a-z]*\):.*## /make \1\t/p' Makefile
@@ -44,21 +52,69 @@ run: ## prove the programs and run them: the vectors, and the checker on the sam
 example: setup build/example ## print the worked example of docs/FORMAT.md
 	@$(EMULATOR) build/example
 
-test: setup build/unit build/compare build/abuse $(WATCHED) build/checker build/calls build/example build/loader build/first ## test the library, then prove everything: the gate
+# How long each line took is written to build/times.
+check test tests: SHELL := tests/timed
+
+define LOOK
+rt fmt --check
+tests/refused untried
+[ ! -e ../shared/tools/contracts ] || ../shared/tools/contracts | grep -x 'contracts: nothing to look at'
+endef
+
+check: times setup ## before a commit: prove what changed and what stands on it, and run the tests
+	$(LOOK)
+	rt check
+	@$(MAKE) -s -j2 -O TWO=1 tests
+
+# What comes after `rt ci` prints nothing where all is right, so that rt's last line is the last of all.
+# The tests use what it has proved.
+test: times setup ## the gate: prove everything from nothing, try every wrong program, and run the tests
+	$(LOOK)
+	rt ci
+	@tests/parts
+	@tests/refused
+	@$(MAKE) -s -j2 QUIET=1 TWO=1 tests
+
+times: SHELL := /bin/sh
+times:
+	@rm -f build/times build/said
+
+tests: $(TESTS:%=test-%)
+
+test-unit: build/unit
 	$(EMULATOR) build/unit
+
+test-compare: build/compare
 	$(EMULATOR) build/compare
+
+test-abuse: build/abuse
 	$(EMULATOR) build/abuse 1000000
+
+test-watched: $(WATCHED)
 	valgrind -q --error-exitcode=1 $(WATCHED) 1000 exact
-	rt check checker
+
+test-checker: build/checker
 	$(EMULATOR) build/checker try tools/run checker
+
+test-calls: build/calls
 	$(EMULATOR) build/calls
+
+test-example: build/example
 	$(EMULATOR) build/example | tests/shown docs/FORMAT.md
 	tests/shown docs/FORMAT.md listing < samples/cards.listing
+
+test-first: build/first
 	$(EMULATOR) build/first | grep -x 'touch 27.41'
+
+test-loader: build/loader
 	tests/loader $(EMULATOR) build/loader
+
+test-refused:
+	tests/found_out
+
+# It calls rt, so the archives are there before it.
+test-install: build/libkkurimyeot.a | $(WATCHED)
 	tests/install "$(C99)" "$(EMULATOR)"
-	rt fmt --check
-	rt ci
 
 bench: setup build/bench $(TIMED) build/checker $(SECOND) build/used ## measure the library beside the second program
 	$(if $(EMULATOR),bench/instructions $(EMULATOR) build/bench)
@@ -83,16 +139,16 @@ build/libkkurimyeot.a: always
 	mkdir -p $(@D)
 	cp target/staticlib/libkkurimyeot.a $@
 
-# For the machine at hand.
+# For the machine at hand. One rt at a time.
 build/native/%: RUSTC := rustc
-build/native/libkkurimyeot.a: always
+build/native/libkkurimyeot.a: build/libkkurimyeot.a
 	bench/native $@ kkurimyeot
 
 %/libsecond.rlib: %/libkkurimyeot.a
 	$(RUST) --crate-type rlib --crate-name second $(LIBRARY) tests/second/lib.rs -o $@
 
 %/bench: %/libsecond.rlib
-	RUSTC_VERSION="$$($(RUSTC) --version)" $(RUST) --extern second=$< bench/bench.rs -o $@
+	RUSTC_VERSION="$$(MAKEFLAGS= $(RUSTC) --version)" $(RUST) --extern second=$< bench/bench.rs -o $@
 
 build/compare: build/libsecond.rlib
 	$(RUST) --extern second=$< tests/compare/main.rs -o $@
