@@ -13,10 +13,10 @@ else
 RUSTC := /usr/bin/rustc --target x86_64-unknown-linux-gnu -C linker=x86_64-linux-gnu-gcc
 CC := x86_64-linux-gnu-gcc
 EMULATOR := /usr/bin/qemu-x86_64
-WATCHED := build/native/abuse
-TIMED := build/native/bench
-CHECKER := build/native/checker
-SECOND := build/native/second
+WATCHED := build/aarch64/abuse
+TIMED := build/aarch64/bench
+CHECKER := build/aarch64/checker
+SECOND := build/aarch64/second
 export BINUTILS := x86_64-linux-gnu-
 endif
 
@@ -26,14 +26,19 @@ RUST = MAKEFLAGS= $(RUSTC) --edition 2021 -C opt-level=3 -C codegen-units=1
 LIBRARY = -L native=$(@D) -l static=kkurimyeot
 C99 = $(CC) -std=c99 -pedantic -Wall -Wextra -Werror
 
-# Where `make install` puts the library, and the release that its pkg-config file names.
+# The processor that the library is written for, the place where `make install` puts it, and the release that its
+# pkg-config file names.
+FOR ?= x86-64
+export FOR
 PREFIX ?= /usr/local
 RELEASE = 0.1.0
 
-# The longest first.
-TESTS = compare checker abuse refused loader watched unit calls example first install
+PROCESSORS := $(shell tools/processor)
 
-.PHONY: help run example check test tests $(TESTS:%=test-%) times bench install setup clean always
+# The longest first.
+TESTS = compare checker abuse $(PROCESSORS:%=board-%) unit refused loader watched calls example first install layout
+
+.PHONY: help run example check test tests $(TESTS:%=test-%) times bench known archive install board setup clean always
 .SECONDARY:
 
 # One at a time, but for the tests.
@@ -112,20 +117,39 @@ test-loader: build/loader
 test-refused:
 	tests/found_out
 
-# It calls rt, so the archives are there before it.
-test-install: build/libkkurimyeot.a | $(WATCHED)
+# It calls rt, and make, so the archives are there before it.
+test-install: $(PROCESSORS:%=build/%/libkkurimyeot.a)
 	tests/install "$(C99)" "$(EMULATOR)"
 
-bench: setup build/bench $(TIMED) build/checker $(SECOND) build/used ## measure the library beside the second program
+# A name that is not known is refused before anything is proved or written.
+known:
+	@tools/processor "$$FOR" >/dev/null
+
+$(PROCESSORS:%=test-board-%): test-board-%: build/%/libkkurimyeot.a build/cases
+	tests/boards $*
+
+test-layout: build/libkkurimyeot.a
+	tests/layout build/kkurimyeot.ll
+
+bench: setup build/bench $(TIMED) build/checker $(SECOND) build/used build/cases $(PROCESSORS:%=build/%/libkkurimyeot.a) ## measure the library: beside the second program, and on each processor
 	$(if $(EMULATOR),bench/instructions $(EMULATOR) build/bench)
 	$(TIMED)
 	bench/sizes build/libkkurimyeot.a
-	$(if $(EMULATOR),bench/native $(CHECKER) checker,rt check checker)
+	$(if $(EMULATOR),bench/native $(CHECKER),rt check checker)
 	bench/listing "$(EMULATOR) build/checker lines" build/used "$(CHECKER)" $(SECOND)
+	bench/boards
 
-install: build/libkkurimyeot.a ## install library, header and checker under PREFIX, by default /usr/local
-	rt check checker
-	tools/install "$(PREFIX)" "$(DESTDIR)" $(RELEASE)
+archive: known build/$(FOR)/libkkurimyeot.a ## prove the library and write its archive FOR=NAME, a processor of tools/processors
+	@for file in build/"$$FOR"/*kkurimyeot.*; do echo "for $$FOR: $$file"; done
+
+install: known build/$(FOR)/libkkurimyeot.a ## install library and header FOR=NAME under PREFIX, by default /usr/local
+	[ "$$FOR" != x86-64 ] || rt check checker
+	tools/install "$(PREFIX)" "$(DESTDIR)" $(RELEASE) "$$FOR"
+
+board: known setup build/$(FOR)/libkkurimyeot.a ## run examples/loader.c FOR=NAME, a Cortex-M on an emulated board
+	tools/firmware "$$FOR" build/"$$FOR"/loader examples/loader.c
+	sed -n '/^01[0-9a-f]*$$/p' docs/FORMAT.md | \
+	    tools/board "$$FOR" build/"$$FOR"/loader 84be85ce9804e94b ec2802d4e0a488e9
 
 setup: ## install what the tests need and this machine lacks
 	tools/setup
@@ -133,16 +157,16 @@ setup: ## install what the tests need and this machine lacks
 clean: ## remove everything that was built
 	rm -rf build target
 
-# rt knows what has changed. All below is built anew on the archive that it writes.
+# rt knows what has changed. All below is built anew on the archive that it writes, and on its module.
 build/libkkurimyeot.a: always
-	rt staticlib kkurimyeot
-	mkdir -p $(@D)
+	tools/module build/kkurimyeot.ll kkurimyeot
 	cp target/staticlib/libkkurimyeot.a $@
 
-# For the machine at hand. One rt at a time.
-build/native/%: RUSTC := rustc
-build/native/libkkurimyeot.a: build/libkkurimyeot.a
-	bench/native $@ kkurimyeot
+build/%/libkkurimyeot.a: build/libkkurimyeot.a
+	tools/archive $*
+
+# For this machine, where it is not x86-64.
+build/aarch64/%: RUSTC := rustc
 
 %/libsecond.rlib: %/libkkurimyeot.a
 	$(RUST) --crate-type rlib --crate-name second $(LIBRARY) tests/second/lib.rs -o $@
@@ -155,6 +179,11 @@ build/compare: build/libsecond.rlib
 
 %/abuse: %/libsecond.rlib
 	$(RUST) --extern second=$< tests/abuse/main.rs -o $@
+
+# Cases for the boards.
+build/cases: build/abuse
+	rm -rf $@
+	$(EMULATOR) build/abuse 6000 cases $@
 
 build/checker: build/libsecond.rlib
 	$(RUST) --extern second=$< tests/checker/main.rs -o $@

@@ -82,7 +82,8 @@
  * limits is refused, whatever its upper bits.
  *
  * A label, a message, sealed bytes or a line are passed as a pointer and the
- * number of bytes there. All these bytes must be the caller's to read, even if
+ * number of bytes there, a kk_size: 64 bits on every processor, so that a size_t
+ * can be handed in as it is. All these bytes must be the caller's to read, even if
  * they are too many or too few and the call is refused. They are never written.
  *
  * An answer is written to memory that the caller lends: a pointer `out` and the
@@ -116,16 +117,46 @@
  * first one in the function's list is given.
  *
  *
- * What a call takes
+ * Processors, and what a call takes there
  *
- * The archive is for x86-64. From outside it needs memset() and nothing else, so it
- * links into programs without a C library or an operating system too. It has no
- * variables and takes no memory but the stack: less than 4 KiB, and what memset()
- * takes (docs/PERFORMANCE.md has the bytes for each call). Calls may run at the
- * same time if none of them writes where another reads or writes.
+ * This header is for all of them. There is an archive for each
+ * (`make archive FOR=NAME`), which needs from outside what is named here and
+ * nothing else, so it links into firmware without a C library too:
  *
- * docs/DECISIONS.md says what was looked up of the archive, and what it means for
- * other processors.
+ *   NAME            processor                       needs from outside
+ *   x86-64          x86-64, System V calls          memset
+ *   aarch64         aarch64, AAPCS64 calls          memset
+ *   cortex-m4       Cortex-M4, with or without      __aeabi_memclr4,
+ *                   its floating point unit,        __aeabi_memclr8,
+ *                   hard and soft float calls       __aeabi_memcpy
+ *   cortex-m0plus   Cortex-M0+ and Cortex-M0        the same, __aeabi_llsl,
+ *                                                   __aeabi_llsr
+ *   rv32imc         RISC-V, RV32IMC, ilp32 calls    memcpy, memset
+ *   wasm32          WebAssembly with bulk memory    nothing
+ *
+ * The names with __aeabi are those of Arm's run-time ABI, which every compiler for
+ * Arm brings along (libgcc, compiler-rt).
+ *
+ * Stack: less than 4 KiB for any call on any of these, and what the functions from
+ * outside take (docs/PERFORMANCE.md has the bytes for each call). No other memory:
+ * the archive has no variables.
+ *
+ * Interrupts: a call may be interrupted anywhere, and may be made by what
+ * interrupts another, if the stack is long enough for both. Calls may run at the
+ * same time if none of them writes where another reads or writes. No call masks
+ * interrupts or waits for anything. On a Cortex-M no register of the floating
+ * point unit is used. On x86-64 and aarch64 the vector registers are, and on
+ * x86-64 the 128 bytes below the stack pointer: what interrupts has to leave them
+ * as they were, as the calling conventions say.
+ *
+ * Unaligned memory: on a Cortex-M4 several bytes are read and written at once,
+ * whatever the address. The processor allows that after a reset: leave the bit
+ * UNALIGN_TRP of its register CCR as it is. (The same goes for aarch64 and the bit
+ * A of SCTLR.)
+ *
+ * docs/DECISIONS.md says what was looked up of the archives, docs/CONTRACTS.md what
+ * is proved of them and what was tested. examples/board/ has a start-up for
+ * Cortex-M boards.
  *
  *
  * Not promised
@@ -141,7 +172,8 @@
  * Examples
  *
  * At the end of this header. They are compiled when KK_EXAMPLE is defined.
- * examples/loader.c is a whole program: a pad's loader, which opens a line.
+ * examples/loader.c is a whole program: a pad's loader, which opens a line, on a
+ * desk and on a board.
  */
 
 #ifndef KKURIMYEOT_H
@@ -155,6 +187,13 @@
 extern "C" {
 #else
 #define KK_RESTRICT restrict
+#endif
+
+/* The number of bytes at a pointer, which is passed in 64 bits on every processor. */
+#if SIZE_MAX < UINT64_MAX
+typedef uint64_t kk_size;
+#else
+typedef size_t kk_size;
 #endif
 
 /* Limits of box and rounds. The least box is 0. */
@@ -240,7 +279,7 @@ static inline uint64_t kk_word(const uint8_t *bytes)
  * Writes w0, w1, k0, k1 to the first KK_SCHEDULE_BYTES bytes of out.
  */
 uint64_t kk_schedule(uint64_t w0, uint64_t k0,
-                     uint8_t *KK_RESTRICT out, size_t out_length);
+                     uint8_t *KK_RESTRICT out, kk_size out_length);
 
 /*
  * The schedule (w0, w1, k0, k1) turned: w1, w0, k0 xor C0AC29B7C97C50DD, and the
@@ -252,7 +291,7 @@ uint64_t kk_schedule(uint64_t w0, uint64_t k0,
  * out.
  */
 uint64_t kk_turn(uint64_t w0, uint64_t w1, uint64_t k0, uint64_t k1,
-                 uint8_t *KK_RESTRICT out, size_t out_length);
+                 uint8_t *KK_RESTRICT out, kk_size out_length);
 
 /*
  * The engine's answer for a block under a tweak and four free words. Under the
@@ -267,7 +306,7 @@ uint64_t kk_turn(uint64_t w0, uint64_t w1, uint64_t k0, uint64_t k1,
 uint64_t kk_engine(uint64_t box, uint64_t rounds,
                    uint64_t w0, uint64_t w1, uint64_t k0, uint64_t k1,
                    uint64_t tweak, uint64_t block,
-                   uint8_t *KK_RESTRICT out, size_t out_length);
+                   uint8_t *KK_RESTRICT out, kk_size out_length);
 
 /*
  * The block enciphered under a tweak and the key (w0, k0): the engine under the
@@ -278,7 +317,7 @@ uint64_t kk_engine(uint64_t box, uint64_t rounds,
 uint64_t kk_encipher(uint64_t box, uint64_t rounds,
                      uint64_t w0, uint64_t k0,
                      uint64_t tweak, uint64_t block,
-                     uint8_t *KK_RESTRICT out, size_t out_length);
+                     uint8_t *KK_RESTRICT out, kk_size out_length);
 
 /*
  * The block deciphered under a tweak and the key (w0, k0): the engine under the
@@ -290,7 +329,7 @@ uint64_t kk_encipher(uint64_t box, uint64_t rounds,
 uint64_t kk_decipher(uint64_t box, uint64_t rounds,
                      uint64_t w0, uint64_t k0,
                      uint64_t tweak, uint64_t block,
-                     uint8_t *KK_RESTRICT out, size_t out_length);
+                     uint8_t *KK_RESTRICT out, kk_size out_length);
 
 /*
  * The message sealed under the key (w0, k0), a serial and a label: its blocks,
@@ -309,9 +348,9 @@ uint64_t kk_decipher(uint64_t box, uint64_t rounds,
  * out, at least 8 and at most 1032.
  */
 uint64_t kk_seal(uint64_t w0, uint64_t k0, uint64_t serial,
-                 const uint8_t *KK_RESTRICT label, size_t label_length,
-                 const uint8_t *KK_RESTRICT message, size_t message_length,
-                 uint8_t *KK_RESTRICT out, size_t out_length);
+                 const uint8_t *KK_RESTRICT label, kk_size label_length,
+                 const uint8_t *KK_RESTRICT message, kk_size message_length,
+                 uint8_t *KK_RESTRICT out, kk_size out_length);
 
 /*
  * The message that the sealed bytes hold under the key (w0, k0), a serial and a
@@ -340,9 +379,9 @@ uint64_t kk_seal(uint64_t w0, uint64_t k0, uint64_t serial,
  */
 uint64_t kk_open(uint64_t w0, uint64_t k0, uint64_t serial,
                  uint64_t message_length,
-                 const uint8_t *KK_RESTRICT label, size_t label_length,
-                 const uint8_t *KK_RESTRICT sealed, size_t sealed_length,
-                 uint8_t *KK_RESTRICT out, size_t out_length);
+                 const uint8_t *KK_RESTRICT label, kk_size label_length,
+                 const uint8_t *KK_RESTRICT sealed, kk_size sealed_length,
+                 uint8_t *KK_RESTRICT out, kk_size out_length);
 
 /*
  * The fields of a line and their places. They are what the line says; that they
@@ -355,8 +394,8 @@ uint64_t kk_open(uint64_t w0, uint64_t k0, uint64_t serial,
  * length and the message length in bytes, the place of the label and the place of
  * the sealed bytes. From its place on, each byte of a field has two digits.
  */
-uint64_t kk_read_line(const uint8_t *KK_RESTRICT line, size_t line_length,
-                      uint8_t *KK_RESTRICT out, size_t out_length);
+uint64_t kk_read_line(const uint8_t *KK_RESTRICT line, kk_size line_length,
+                      uint8_t *KK_RESTRICT out, kk_size out_length);
 
 /*
  * The line of the message sealed under the key (w0, k0), a serial and a label: the
@@ -376,9 +415,9 @@ uint64_t kk_read_line(const uint8_t *KK_RESTRICT line, size_t line_length,
  * follows.
  */
 uint64_t kk_write_line(uint64_t w0, uint64_t k0, uint64_t serial,
-                       const uint8_t *KK_RESTRICT label, size_t label_length,
-                       const uint8_t *KK_RESTRICT message, size_t message_length,
-                       uint8_t *KK_RESTRICT out, size_t out_length);
+                       const uint8_t *KK_RESTRICT label, kk_size label_length,
+                       const uint8_t *KK_RESTRICT message, kk_size message_length,
+                       uint8_t *KK_RESTRICT out, kk_size out_length);
 
 /*
  * The message that a line holds under the key (w0, k0): what kk_open() gives for
@@ -398,8 +437,8 @@ uint64_t kk_write_line(uint64_t w0, uint64_t k0, uint64_t serial,
  * 1024 and perhaps none, and writes no byte before it has accepted.
  */
 uint64_t kk_open_line(uint64_t w0, uint64_t k0,
-                      const uint8_t *KK_RESTRICT line, size_t line_length,
-                      uint8_t *KK_RESTRICT out, size_t out_length);
+                      const uint8_t *KK_RESTRICT line, kk_size line_length,
+                      uint8_t *KK_RESTRICT out, kk_size out_length);
 
 #ifdef KK_EXAMPLE
 /* Enciphers a block and deciphers it again. Gives 1 if the block came back. */

@@ -340,69 +340,69 @@ static void opens_at_last(void)
     wrote_text(opened(o), MESSAGE, "kk_open, all put right");
 }
 
-/* A line, or what is none, with room for a byte after the longest. */
+/* A line, or what is none, with room for a byte after the longest. There is one at a time,
+   since a pad has little memory: the functions below make it, change it and hand it on. */
 struct line {
     uint8_t bytes[KK_LINE_MAX + 1];
     size_t length;
 };
+static struct line line;
 
-/* Puts the digits of some bytes at the end of a line. */
-static void put_digits(struct line *line, const void *bytes, size_t length)
+/* Puts the digits of some bytes at the end of the line. */
+static void put_digits(const void *bytes, size_t length)
 {
     static const char digits[] = "0123456789abcdef";
     const uint8_t *byte = bytes;
 
     for (; length > 0; length--, byte++) {
-        line->bytes[line->length++] = (uint8_t)digits[*byte >> 4];
-        line->bytes[line->length++] = (uint8_t)digits[*byte & 15];
+        line.bytes[line.length++] = (uint8_t)digits[*byte >> 4];
+        line.bytes[line.length++] = (uint8_t)digits[*byte & 15];
     }
 }
 
 /* Just this text. */
-static struct line text(const char *bytes)
+static struct line *text(const char *bytes)
 {
-    struct line line = { { 0 }, strlen(bytes) };
-
+    line.length = strlen(bytes);
     memcpy(line.bytes, bytes, line.length);
-    return line;
+    return &line;
 }
 
 /* The line whose first digits, of version, serial and lengths, are these. */
-static struct line line_of(const char *head, const void *label, size_t label_length,
-                           const uint8_t *sealed_bytes, size_t sealed_length)
+static struct line *line_of(const char *head, const void *label, size_t label_length,
+                            const uint8_t *sealed_bytes, size_t sealed_length)
 {
-    struct line line = text(head);
-
-    put_digits(&line, label, label_length);
-    put_digits(&line, sealed_bytes, sealed_length);
+    text(head);
+    put_digits(label, label_length);
+    put_digits(sealed_bytes, sealed_length);
     line.bytes[line.length++] = '\n';
-    return line;
+    return &line;
 }
 
 /* The line of the first of the frames above, with other first digits. */
-static struct line known_with(const char *head)
+static struct line *known_with(const char *head)
 {
     return line_of(head, LABEL, strlen(LABEL), sealed, sizeof sealed);
 }
 
 /* The lines of the frames above. */
-static struct line known_line(void)
+static struct line *known_line(void)
 {
     return known_with("01" "000000000001" "06" "000b");
 }
 
-static struct line empty_line(void)
+static struct line *empty_line(void)
 {
     return line_of("01" "000000000001" "00" "0000", NULL, 0, sealed_empty, sizeof sealed_empty);
 }
 
-static struct line last_line(void)
+static struct line *last_line(void)
 {
     return line_of("01" "0fffffffffff" "01" "0005", "\4", 1, sealed_last, sizeof sealed_last);
 }
 
 /* A line of as many bytes as can be: label and message are zeros. */
-static struct line longest_line(void)
+static struct line *longest_line(void)
 {
     uint8_t bytes[KK_SEALED_BYTES(KK_MESSAGE_MAX)];
 
@@ -411,30 +411,30 @@ static struct line longest_line(void)
     return line_of("01" "000000000001" "20" "0400", long_bytes, KK_LABEL_MAX, bytes, sizeof bytes);
 }
 
-/* A line with another byte at a place. */
-static struct line changed(struct line line, size_t place, int byte)
+/* The line with another byte at a place. */
+static struct line *changed(struct line *made, size_t place, int byte)
 {
-    line.bytes[place] = (uint8_t)byte;
-    return line;
+    made->bytes[place] = (uint8_t)byte;
+    return made;
 }
 
-/* The first bytes of a line, so many. */
-static struct line cut(struct line line, size_t length)
+/* The first bytes of the line, so many. */
+static struct line *cut(struct line *made, size_t length)
 {
-    line.length = length;
-    return line;
+    made->length = length;
+    return made;
 }
 
-/* A line and a byte after it. */
-static struct line longer(struct line line, int byte)
+/* The line and a byte after it. */
+static struct line *longer(struct line *made, int byte)
 {
-    line.bytes[line.length++] = (uint8_t)byte;
-    return line;
+    made->bytes[made->length++] = (uint8_t)byte;
+    return made;
 }
 
-static uint64_t line_read(struct line line, size_t room)
+static uint64_t line_read(const struct line *made, size_t room)
 {
-    return kk_read_line(line.bytes, line.length, lend(), room);
+    return kk_read_line(made->bytes, made->length, lend(), room);
 }
 
 /* kk_write_line() under the key above. */
@@ -447,14 +447,14 @@ static uint64_t line_written(uint64_t serial, const void *label, size_t label_le
 }
 
 /* kk_open_line() under the key above. */
-static uint64_t line_opened(struct line line, size_t room)
+static uint64_t line_opened(const struct line *made, size_t room)
 {
-    return kk_open_line(W0, K0, line.bytes, line.length, lend(), room);
+    return kk_open_line(W0, K0, made->bytes, made->length, lend(), room);
 }
 
-static void wrote_line(uint64_t answer, struct line line, const char *what)
+static void wrote_line(uint64_t answer, const struct line *made, const char *what)
 {
-    wrote_bytes(answer, line.bytes, line.length, what);
+    wrote_bytes(answer, made->bytes, made->length, what);
 }
 
 static void wrote_reading(uint64_t answer, uint64_t serial, uint64_t label_length,
@@ -474,18 +474,18 @@ static void wrote_reading(uint64_t answer, uint64_t serial, uint64_t label_lengt
 static void writes_lines(void)
 {
     const size_t label = strlen(LABEL), message = strlen(MESSAGE);
-    const struct line line = known_line();
+    const size_t length = known_line()->length;
     uint64_t answer;
 
     check(KK_LINE_BYTES(0, 0) == KK_LINE_MIN, "KK_LINE_BYTES, shortest");
     check(KK_LINE_BYTES(0, 1) == 53, "KK_LINE_BYTES, a byte of message");
     check(KK_LINE_BYTES(KK_LABEL_MAX, KK_MESSAGE_MAX) == KK_LINE_MAX, "KK_LINE_BYTES, longest");
-    check(KK_LINE_BYTES(label, message) == line.length, "KK_LINE_BYTES, known");
+    check(KK_LINE_BYTES(label, message) == length, "KK_LINE_BYTES, known");
 
     answer = line_written(SERIAL, LABEL, label, MESSAGE, message, lend(), sizeof out);
-    wrote_line(answer, line, "kk_write_line");
-    answer = line_written(SERIAL, LABEL, label, MESSAGE, message, lend(), line.length);
-    wrote_line(answer, line, "kk_write_line, exact room");
+    wrote_line(answer, known_line(), "kk_write_line");
+    answer = line_written(SERIAL, LABEL, label, MESSAGE, message, lend(), length);
+    wrote_line(answer, known_line(), "kk_write_line, exact room");
     answer = line_written(KK_SERIAL_MAX, "\4", 1, "27.41", 5, lend(), sizeof out);
     wrote_line(answer, last_line(), "kk_write_line, the greatest serial");
     answer = line_written(SERIAL, long_bytes, KK_LABEL_MAX, long_bytes, KK_MESSAGE_MAX,
@@ -505,7 +505,7 @@ static void writes_lines(void)
     refused(answer, KK_REFUSED_SERIAL, "kk_write_line, bad serial and short");
     answer = line_written(KK_SERIAL_MAX + 1, LABEL, label, MESSAGE, message, lend(), sizeof out);
     refused(answer, KK_REFUSED_SERIAL, "kk_write_line, bad serial");
-    answer = line_written(SERIAL, LABEL, label, MESSAGE, message, lend(), line.length - 1);
+    answer = line_written(SERIAL, LABEL, label, MESSAGE, message, lend(), length - 1);
     refused(answer, KK_REFUSED_ROOM, "kk_write_line, short");
     answer = line_written(SERIAL, LABEL, label, MESSAGE, message, lend(), sizeof sealed);
     refused(answer, KK_REFUSED_ROOM, "kk_write_line, room for the sealed bytes alone");
@@ -525,10 +525,8 @@ static void writes_lines(void)
 
 static void reads_lines(void)
 {
-    const struct line line = known_line();
-
-    wrote_reading(line_read(line, sizeof out), SERIAL, 6, 11, 32, "kk_read_line");
-    wrote_reading(line_read(line, KK_READ_BYTES), SERIAL, 6, 11, 32, "kk_read_line, exact room");
+    wrote_reading(line_read(known_line(), sizeof out), SERIAL, 6, 11, 32, "kk_read_line");
+    wrote_reading(line_read(known_line(), KK_READ_BYTES), SERIAL, 6, 11, 32, "kk_read_line, exact room");
     wrote_reading(line_read(empty_line(), sizeof out), SERIAL, 0, 0, 20, "kk_read_line, shortest");
     wrote_reading(line_read(longest_line(), sizeof out), SERIAL, KK_LABEL_MAX, KK_MESSAGE_MAX, 84,
                   "kk_read_line, longest");
@@ -538,8 +536,9 @@ static void reads_lines(void)
     wrote_reading(line_read(known_with("01" "0123456789ab" "06" "000c"), sizeof out),
                   UINT64_C(0x0123456789ab), 6, 12, 32, "kk_read_line, a line that does not open");
 
-    refused(line_read(line, KK_READ_BYTES - 1), KK_REFUSED_ROOM, "kk_read_line, short");
+    refused(line_read(known_line(), KK_READ_BYTES - 1), KK_REFUSED_ROOM, "kk_read_line, short");
     lend();
+    known_line();
     refused(kk_read_line(line.bytes, line.length, NULL, 0), KK_REFUSED_ROOM,
             "kk_read_line, null out");
     refused_at(kk_read_line(NULL, 0, out, sizeof out), KK_REFUSED_LINE, 0,
@@ -549,22 +548,22 @@ static void reads_lines(void)
 
 static void opens_lines(void)
 {
-    const struct line line = known_line(), empty = empty_line();
+    const size_t length = known_line()->length;
 
-    wrote_text(line_opened(line, sizeof out), MESSAGE, "kk_open_line");
-    wrote_text(line_opened(line, strlen(MESSAGE)), MESSAGE, "kk_open_line, exact room");
-    wrote_text(line_opened(empty, sizeof out), "", "kk_open_line, shortest");
+    wrote_text(line_opened(known_line(), sizeof out), MESSAGE, "kk_open_line");
+    wrote_text(line_opened(known_line(), strlen(MESSAGE)), MESSAGE, "kk_open_line, exact room");
+    wrote_text(line_opened(empty_line(), sizeof out), "", "kk_open_line, shortest");
     wrote_bytes(line_opened(longest_line(), KK_MESSAGE_MAX), long_bytes, KK_MESSAGE_MAX,
                 "kk_open_line, longest");
     wrote_text(line_opened(last_line(), sizeof out), "27.41", "kk_open_line, the greatest serial");
 
-    refused(line_opened(line, strlen(MESSAGE) - 1), KK_REFUSED_ROOM, "kk_open_line, short");
+    refused(line_opened(known_line(), strlen(MESSAGE) - 1), KK_REFUSED_ROOM, "kk_open_line, short");
 
-    refused(line_opened(changed(line, line.length - 2, '2'), sizeof out),
+    refused(line_opened(changed(known_line(), length - 2, '2'), sizeof out),
             KK_REFUSED_DISAGREES, "kk_open_line, changed tag");
-    refused(line_opened(changed(line, 32, '6'), sizeof out),
+    refused(line_opened(changed(known_line(), 32, '6'), sizeof out),
             KK_REFUSED_DISAGREES, "kk_open_line, changed block");
-    refused(line_opened(changed(line, 20, '7'), sizeof out),
+    refused(line_opened(changed(known_line(), 20, '7'), sizeof out),
             KK_REFUSED_DISAGREES, "kk_open_line, changed label");
     refused(line_opened(known_with("01" "000000000002" "06" "000b"), sizeof out),
             KK_REFUSED_DISAGREES, "kk_open_line, another serial");
@@ -574,6 +573,7 @@ static void opens_lines(void)
             KK_REFUSED_DISAGREES, "kk_open_line, length of a byte more");
     refused(line_opened(known_with("01" "000000000001" "06" "0010"), sizeof out),
             KK_REFUSED_DISAGREES, "kk_open_line, length of whole blocks");
+    known_line();
     refused(kk_open_line(W0 ^ 1, K0, line.bytes, line.length, lend(), sizeof out),
             KK_REFUSED_DISAGREES, "kk_open_line, another outer word");
     refused(kk_open_line(W0, K0 ^ 1, line.bytes, line.length, lend(), sizeof out),
@@ -581,8 +581,10 @@ static void opens_lines(void)
 
     /* No bytes at all, by null pointers. */
     lend();
-    wrote_text(kk_open_line(W0, K0, empty.bytes, empty.length, NULL, 0), "",
+    empty_line();
+    wrote_text(kk_open_line(W0, K0, line.bytes, line.length, NULL, 0), "",
                "kk_open_line, no message and null out");
+    known_line();
     refused(kk_open_line(W0, K0, line.bytes, line.length, NULL, 0), KK_REFUSED_ROOM,
             "kk_open_line, null out");
     refused_at(kk_open_line(W0, K0, NULL, 0, out, sizeof out), KK_REFUSED_LINE, 0,
@@ -591,32 +593,37 @@ static void opens_lines(void)
                "kk_open_line, all null");
 }
 
+/* A block of the known line changed. */
+static struct line *bad_line(void)
+{
+    return changed(known_line(), 32, '6');
+}
+
 /* The order of the refusals of the line calls: all is bad, and is put right from the first on. */
 static void opens_lines_at_last(void)
 {
-    const struct line line = known_line(), bad = changed(line, 32, '6');
-    const size_t message = strlen(MESSAGE);
+    const size_t length = known_line()->length, message = strlen(MESSAGE);
 
-    refused_at(line_read(longer(line, '\n'), 0), KK_REFUSED_LINE, line.length,
+    refused_at(line_read(longer(known_line(), '\n'), 0), KK_REFUSED_LINE, length,
                "kk_read_line, all bad");
-    refused(line_read(line, 0), KK_REFUSED_ROOM, "kk_read_line, room bad");
-    wrote_reading(line_read(line, KK_READ_BYTES), SERIAL, 6, 11, 32,
+    refused(line_read(known_line(), 0), KK_REFUSED_ROOM, "kk_read_line, room bad");
+    wrote_reading(line_read(known_line(), KK_READ_BYTES), SERIAL, 6, 11, 32,
                   "kk_read_line, all put right");
 
-    refused_at(line_opened(longer(bad, '\n'), message - 1), KK_REFUSED_LINE, line.length,
+    refused_at(line_opened(longer(bad_line(), '\n'), message - 1), KK_REFUSED_LINE, length,
                "kk_open_line, all bad");
-    refused(line_opened(bad, message - 1), KK_REFUSED_ROOM, "kk_open_line, room and tag bad");
-    refused(line_opened(bad, message), KK_REFUSED_DISAGREES, "kk_open_line, tag bad");
-    wrote_text(line_opened(line, message), MESSAGE, "kk_open_line, all put right");
+    refused(line_opened(bad_line(), message - 1), KK_REFUSED_ROOM, "kk_open_line, room and tag bad");
+    refused(line_opened(bad_line(), message), KK_REFUSED_DISAGREES, "kk_open_line, tag bad");
+    wrote_text(line_opened(known_line(), message), MESSAGE, "kk_open_line, all put right");
 }
 
 /* Refusal 7 and its place, from reading and opening alike, whatever the room. */
-static void no_line(struct line line, size_t place, const char *what)
+static void no_line(const struct line *made, size_t place, const char *what)
 {
-    refused_at(line_read(line, sizeof out), KK_REFUSED_LINE, place, what);
-    refused_at(line_read(line, 0), KK_REFUSED_LINE, place, what);
-    refused_at(line_opened(line, sizeof out), KK_REFUSED_LINE, place, what);
-    refused_at(line_opened(line, 0), KK_REFUSED_LINE, place, what);
+    refused_at(line_read(made, sizeof out), KK_REFUSED_LINE, place, what);
+    refused_at(line_read(made, 0), KK_REFUSED_LINE, place, what);
+    refused_at(line_opened(made, sizeof out), KK_REFUSED_LINE, place, what);
+    refused_at(line_opened(made, 0), KK_REFUSED_LINE, place, what);
 }
 
 /* The first digits of a line that are refused, and the longest line and a byte more. */
@@ -656,38 +663,38 @@ static void no_line_anywhere(void)
 {
     /* The bytes next to '0' to '9' and 'a' to 'f', the capitals, and others, with 00 the last. */
     static const char others[] = "/:`g@ABCDEFG \r\t\200\377";
-    const struct line line = known_line();
-    const size_t end = line.length - 1;
+    const size_t end = known_line()->length - 1;
     size_t place, i;
 
     for (place = 0; place <= end; place++) {
-        no_line(cut(line, place), place, "a line cut short");
+        no_line(cut(known_line(), place), place, "a line cut short");
         for (i = 0; i < sizeof others; i++) {
-            no_line(changed(line, place, others[i]), place, "no digit");
+            no_line(changed(known_line(), place, others[i]), place, "no digit");
         }
         if (place < end) {
-            no_line(changed(line, place, '\n'), place, "an end too early");
+            no_line(changed(known_line(), place, '\n'), place, "an end too early");
         }
     }
-    no_line(changed(line, end, '0'), end, "a digit for the end");
-    no_line(longer(changed(line, end, '\r'), '\n'), end, "byte 0D before the end");
+    no_line(changed(known_line(), end, '0'), end, "a digit for the end");
+    no_line(longer(changed(known_line(), end, '\r'), '\n'), end, "byte 0D before the end");
 
-    no_line(longer(line, '\n'), line.length, "an end after the end");
-    no_line(longer(line, '0'), line.length, "a digit after the end");
-    no_line(longer(line, 0), line.length, "byte 00 after the end");
+    no_line(longer(known_line(), '\n'), end + 1, "an end after the end");
+    no_line(longer(known_line(), '0'), end + 1, "a digit after the end");
+    no_line(longer(known_line(), 0), end + 1, "byte 00 after the end");
 }
 
 /* A line with one bit of any of its bytes changed opens no more. */
 static void no_line_damaged(void)
 {
-    const struct line line = known_line();
+    const size_t length = known_line()->length;
     uint64_t answer;
     size_t place;
     int bit;
 
-    for (place = 0; place < line.length; place++) {
+    for (place = 0; place < length; place++) {
         for (bit = 1; bit < 256; bit *= 2) {
-            answer = line_opened(changed(line, place, line.bytes[place] ^ bit), sizeof out);
+            known_line();
+            answer = line_opened(changed(&line, place, line.bytes[place] ^ bit), sizeof out);
             check(kk_refusal(answer) == KK_REFUSED_LINE || answer == (uint64_t)KK_REFUSED_DISAGREES << 56,
                   "a damaged line");
             check(untouched_from(0), "a damaged line, nothing changed");
@@ -740,25 +747,25 @@ static void opens_by_example(void)
 static void lines_by_example(void)
 {
     static const uint8_t reading[] = "27.41, and 24 bytes of it";
-    const struct line last = last_line();
-    uint8_t line[KK_LINE_BYTES(1, 24)];
+    uint8_t bytes[KK_LINE_BYTES(1, 24)];
     uint64_t next = KK_SERIAL_MAX;
     uint32_t length;
 
-    length = kk_line_example(W0, K0, &next, 4, reading, 5, line, lend());
+    length = kk_line_example(W0, K0, &next, 4, reading, 5, bytes, lend());
     wrote_bytes(5, reading, 5, "the header's example of lines");
-    check(length == last.length && memcmp(line, last.bytes, length) == 0, "the line of a reading");
+    check(length == last_line()->length && memcmp(bytes, line.bytes, length) == 0,
+          "the line of a reading");
     check(next == KK_SERIAL_MAX + 1, "the last serial is used");
     lend();
-    check(kk_line_example(W0, K0, &next, 4, reading, 5, line, out) == 0, "no serial left");
+    check(kk_line_example(W0, K0, &next, 4, reading, 5, bytes, out) == 0, "no serial left");
     check(next == KK_SERIAL_MAX + 1 && untouched_from(0), "no serial left, nothing changed");
 
     next = SERIAL;
-    length = kk_line_example(W0, K0, &next, 4, reading, 24, line, lend());
+    length = kk_line_example(W0, K0, &next, 4, reading, 24, bytes, lend());
     wrote_bytes(24, reading, 24, "the header's example of lines, longest");
-    check(length == sizeof line && next == SERIAL + 1, "a line of the longest reading");
+    check(length == sizeof bytes && next == SERIAL + 1, "a line of the longest reading");
     lend();
-    check(kk_line_example(W0, K0, &next, 4, reading, 25, line, out) == 0, "a reading too long");
+    check(kk_line_example(W0, K0, &next, 4, reading, 25, bytes, out) == 0, "a reading too long");
     check(next == SERIAL + 1 && untouched_from(0), "a reading too long, nothing changed");
 }
 

@@ -1,5 +1,6 @@
 //! Random calls of each C function, each compared with the second program.
 
+use crate::cases::Cases;
 use crate::damage::damage_line;
 use crate::frames::{self, Frame};
 use crate::numbers;
@@ -26,12 +27,14 @@ pub enum Memory {
 }
 
 /// What random calls are made from, and how they compared so far. All memory is filled from `bytes`.
+/// Where there are cases, calls are added to them and not made.
 pub struct Abuse {
     rng: Rng,
     memory: Memory,
     frames: Vec<Frame>,
     bytes: Vec<u8>,
     pub tally: Tally,
+    pub cases: Option<Cases>,
 }
 
 impl Abuse {
@@ -49,6 +52,7 @@ impl Abuse {
             frames,
             bytes,
             tally: Tally::default(),
+            cases: None,
         }
     }
 
@@ -79,6 +83,10 @@ impl Abuse {
     fn run(&mut self, call: &impl Call, need: usize, handed_in: &[&Part]) -> u64 {
         let room = numbers::room(&mut self.rng, need.min(LONGEST));
         let meant = call.meant(room);
+        if let Some(cases) = &mut self.cases {
+            cases.add(call, room, &meant);
+            return meant.answer;
+        }
         if self.memory == Memory::Exact {
             run_on_unwritten(&mut self.tally, call, room, &meant);
         }

@@ -1,18 +1,23 @@
 //! Abuses the library: random and damaged numbers, lengths and bytes through all its C functions, each
 //! call compared with the second program.
 //!
-//!     abuse COUNT        so many calls, all memory between canaries
-//!     abuse COUNT exact  for valgrind: each slice allocated by itself, and each call made once more
-//!                        on lent memory that nothing was written to
+//!     abuse COUNT               so many calls, all memory between canaries
+//!     abuse COUNT exact         for valgrind: each slice allocated by itself, and each call made once
+//!                               more on lent memory that nothing was written to
+//!     abuse COUNT cases FOLDER  makes no call: writes the calls, with what the second program says of
+//!                               them, to files for the boards, after the nine vectors of appendix A.1
 
 mod calls;
+mod cases;
 mod damage;
 mod frames;
 mod numbers;
 
 use calls::{Abuse, Memory};
+use cases::Cases;
 use second::calls::blocks::Function::{Decipher, Encipher, Engine, Schedule, Turn};
 use std::env;
+use std::path::Path;
 use std::process::ExitCode;
 
 /// Every run has the same calls.
@@ -64,15 +69,17 @@ fn complete(name: &str, refusals: &[u8], came: &Came) -> bool {
 fn main() -> ExitCode {
     let words: Vec<String> = env::args().skip(1).collect();
     let words: Vec<&str> = words.iter().map(String::as_str).collect();
-    let (count, memory) = match words[..] {
-        [count] => (count, Memory::Canaries),
-        [count, "exact"] => (count, Memory::Exact),
-        _ => panic!("COUNT or COUNT exact"),
+    let (count, memory, folder) = match words[..] {
+        [count] => (count, Memory::Canaries, None),
+        [count, "exact"] => (count, Memory::Exact, None),
+        [count, "cases", folder] => (count, Memory::Canaries, Some(Path::new(folder))),
+        _ => panic!("COUNT, COUNT exact or COUNT cases FOLDER"),
     };
     let count: u64 = count.parse().expect("a number");
 
     println!("abuse: {count} calls, seed {SEED:016x}");
     let mut abuse = Abuse::new(SEED, memory);
+    abuse.cases = folder.map(|_| Cases::new());
     let mut came = [[0; 256]; FUNCTIONS.len()];
     for _ in 0..count {
         let function = abuse.below(FUNCTIONS.len());
@@ -86,7 +93,13 @@ fn main() -> ExitCode {
         print_counts(name, came);
         all_came &= complete(name, refusals, came);
     }
-    let finished = abuse.tally.finish();
+    let finished = match (abuse.cases, folder) {
+        (Some(cases), Some(folder)) => {
+            cases.write(folder).expect("files that can be written");
+            ExitCode::SUCCESS
+        }
+        _ => abuse.tally.finish(),
+    };
     if all_came {
         finished
     } else {

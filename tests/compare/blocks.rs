@@ -1,10 +1,11 @@
 //! The block calls: `kk_schedule`, `kk_turn`, `kk_engine`, `kk_encipher`, `kk_decipher`.
 
 use second::calls::blocks::{
-    wrote, Function, Input, Settings, BOXES, FUNCTIONS, REFUSED_SETTINGS, ROUNDS, WITH_SETTINGS,
+    self, wrote, Function, Input, Settings, BOXES, FUNCTIONS, REFUSED_SETTINGS, ROUNDS,
+    WITH_SETTINGS,
 };
 use second::harness::{self, Outcome, Tally};
-use second::qarma::{self, vectors, Schedule};
+use second::qarma::Schedule;
 use second::rng::Rng;
 use std::array;
 use std::ops::RangeInclusive;
@@ -162,17 +163,8 @@ fn bad_settings(tally: &mut Tally) {
 
 /// The nine vectors of appendix A.1 in both directions.
 fn paper_vectors(tally: &mut Tally) {
-    let Schedule { w0, w1, k0, k1 } = qarma::schedule(vectors::KEY);
-    for (box_number, rounds, ciphertext) in vectors::CIPHERTEXTS {
-        let settings = (box_number as u64, rounds as u64);
-        let input = |block| Input::new(settings, [w0, w1, k0, k1, vectors::TWEAK, block]);
-        for (function, block, answer) in [
-            (Function::Engine, vectors::PLAIN, ciphertext),
-            (Function::Encipher, vectors::PLAIN, ciphertext),
-            (Function::Decipher, ciphertext, vectors::PLAIN),
-        ] {
-            tally.expect(&function.of(input(block)), 8, &wrote(&[answer]));
-        }
+    for (call, meant) in blocks::paper_vectors() {
+        tally.expect(&call, 8, &meant);
     }
 }
 

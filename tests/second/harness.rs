@@ -48,8 +48,19 @@ impl Outcome {
     }
 }
 
+/// What a call is given beside the lent memory: which function it is, in the order of
+/// `include/kkurimyeot.h`, its numbers, and the slices that it reads.
+pub struct Given<'a> {
+    pub function: u8,
+    pub numbers: Vec<u64>,
+    pub slices: Vec<&'a [u8]>,
+}
+
 /// A call of the library with all that it is given but the lent memory.
 pub trait Call: Debug {
+    /// All that, for a caller that is not this program.
+    fn given(&self) -> Given<'_>;
+
     /// Calls the library and gives its returned number.
     fn run(&self, out: &mut [u8]) -> u64;
 

@@ -1,8 +1,8 @@
 //! The block calls: `kk_schedule`, `kk_turn`, `kk_engine`, `kk_encipher`, `kk_decipher`.
 
 use crate::ffi;
-use crate::harness::{self, Call, Outcome};
-use crate::qarma::{self, Key, Schedule};
+use crate::harness::{self, Call, Given, Outcome};
+use crate::qarma::{self, vectors, Key, Schedule};
 use crate::rng::Rng;
 use std::array;
 use std::ops::RangeInclusive;
@@ -147,6 +147,29 @@ impl BlockCall {
 }
 
 impl Call for BlockCall {
+    fn given(&self) -> Given<'_> {
+        let Input {
+            box_number,
+            rounds,
+            schedule: Schedule { w0, w1, k0, k1 },
+            tweak,
+            block,
+        } = self.input;
+        let numbers = match self.function {
+            Function::Schedule => vec![w0, k0],
+            Function::Turn => vec![w0, w1, k0, k1],
+            Function::Engine => vec![box_number, rounds, w0, w1, k0, k1, tweak, block],
+            Function::Encipher | Function::Decipher => {
+                vec![box_number, rounds, w0, k0, tweak, block]
+            }
+        };
+        Given {
+            function: self.function as u8,
+            numbers,
+            slices: Vec::new(),
+        }
+    }
+
     fn run(&self, out: &mut [u8]) -> u64 {
         let key = self.input.key();
         let Input {
@@ -172,6 +195,23 @@ impl Call for BlockCall {
             Some(words) => wrote(&words),
         }
     }
+}
+
+/// The nine vectors of appendix A.1 in both directions, and under the engine: calls, and what they answer.
+pub fn paper_vectors() -> Vec<(BlockCall, Outcome)> {
+    let Schedule { w0, w1, k0, k1 } = qarma::schedule(vectors::KEY);
+    let mut calls = Vec::new();
+    for (number, rounds, ciphertext) in vectors::CIPHERTEXTS {
+        let settings = (number as u64, rounds as u64);
+        let input = |block| Input::new(settings, [w0, w1, k0, k1, vectors::TWEAK, block]);
+        let (plain, cipher) = (input(vectors::PLAIN), input(ciphertext));
+        calls.extend([
+            (Function::Engine.of(plain), wrote(&[ciphertext])),
+            (Function::Encipher.of(plain), wrote(&[ciphertext])),
+            (Function::Decipher.of(cipher), wrote(&[vectors::PLAIN])),
+        ]);
+    }
+    calls
 }
 
 /// The outcome of a call that answers these words.

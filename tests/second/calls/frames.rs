@@ -2,7 +2,7 @@
 
 use crate::ffi;
 use crate::frame::{self, Refusal};
-use crate::harness::{Call, Outcome, Part};
+use crate::harness::{Call, Given, Outcome, Part};
 use crate::qarma::Key;
 
 /// What there is to seal. Message and label are parts of longer memory, so that a byte read past
@@ -47,6 +47,14 @@ impl<'a> SealCall<'a> {
 }
 
 impl Call for SealCall<'_> {
+    fn given(&self) -> Given<'_> {
+        Given {
+            function: 5,
+            numbers: vec![self.key.w0, self.key.k0, self.serial],
+            slices: vec![self.label, self.message],
+        }
+    }
+
     fn run(&self, out: &mut [u8]) -> u64 {
         ffi::seal(self.key, self.serial, self.label, self.message, out)
     }
@@ -79,6 +87,15 @@ impl OpenCall<'_> {
 }
 
 impl Call for OpenCall<'_> {
+    fn given(&self) -> Given<'_> {
+        let Key { w0, k0 } = self.key;
+        Given {
+            function: 6,
+            numbers: vec![w0, k0, self.serial, self.message_length],
+            slices: vec![self.label, self.sealed],
+        }
+    }
+
     fn run(&self, out: &mut [u8]) -> u64 {
         let Self {
             key,

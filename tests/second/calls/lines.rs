@@ -3,7 +3,7 @@
 use crate::calls::frames::{outcome, refused, SealCall};
 use crate::ffi;
 use crate::frame::Refusal;
-use crate::harness::{Call, Outcome};
+use crate::harness::{Call, Given, Outcome};
 use crate::line::{self, Fields, NotALine};
 use crate::qarma::Key;
 use std::fmt;
@@ -33,6 +33,14 @@ pub struct ReadCall<'a> {
 }
 
 impl Call for ReadCall<'_> {
+    fn given(&self) -> Given<'_> {
+        Given {
+            function: 7,
+            numbers: Vec::new(),
+            slices: vec![self.line.0],
+        }
+    }
+
     fn run(&self, out: &mut [u8]) -> u64 {
         ffi::read_line(self.line.0, out)
     }
@@ -76,6 +84,13 @@ impl WriteCall<'_> {
 }
 
 impl Call for WriteCall<'_> {
+    fn given(&self) -> Given<'_> {
+        Given {
+            function: 8,
+            ..self.frame.given()
+        }
+    }
+
     fn run(&self, out: &mut [u8]) -> u64 {
         let SealCall {
             key,
@@ -106,6 +121,14 @@ pub struct OpenLineCall<'a> {
 }
 
 impl Call for OpenLineCall<'_> {
+    fn given(&self) -> Given<'_> {
+        Given {
+            function: 9,
+            numbers: vec![self.key.w0, self.key.k0],
+            slices: vec![self.line.0],
+        }
+    }
+
     fn run(&self, out: &mut [u8]) -> u64 {
         ffi::open_line(self.key, self.line.0, out)
     }

@@ -1,0 +1,8 @@
+#ifndef INTTYPES_H
+#define INTTYPES_H
+
+#include <stdint.h>
+
+#define PRIu32 __UINT32_FMTu__
+
+#endif
