@@ -36,7 +36,7 @@ RELEASE = 0.1.0
 PROCESSORS := $(shell tools/processor)
 
 # The longest first.
-TESTS = compare checker abuse $(PROCESSORS:%=board-%) unit refused loader watched calls example first install layout
+TESTS = compare checker abuse $(PROCESSORS:%=for-%) unit refused loader watched calls example first install layout
 
 .PHONY: help run example check test tests $(TESTS:%=test-%) times bench known archive install board setup clean always
 .SECONDARY:
@@ -125,11 +125,12 @@ test-install: $(PROCESSORS:%=build/%/libkkurimyeot.a)
 known:
 	@tools/processor "$$FOR" >/dev/null
 
-$(PROCESSORS:%=test-board-%): test-board-%: build/%/libkkurimyeot.a build/cases
-	tests/boards $*
+$(PROCESSORS:%=test-for-%): test-for-%: build/%/libkkurimyeot.a build/cases
+	tests/processor $*
 
 test-layout: build/libkkurimyeot.a
 	tests/layout build/kkurimyeot.ll
+	tests/depends build/kkurimyeot.ll
 
 bench: setup build/bench $(TIMED) build/checker $(SECOND) build/used build/cases $(PROCESSORS:%=build/%/libkkurimyeot.a) ## measure the library: beside the second program, and on each processor
 	$(if $(EMULATOR),bench/instructions $(EMULATOR) build/bench)
@@ -137,7 +138,7 @@ bench: setup build/bench $(TIMED) build/checker $(SECOND) build/used build/cases
 	bench/sizes build/libkkurimyeot.a
 	$(if $(EMULATOR),bench/native $(CHECKER),rt check checker)
 	bench/listing "$(EMULATOR) build/checker lines" build/used "$(CHECKER)" $(SECOND)
-	bench/boards
+	bench/processors
 
 archive: known build/$(FOR)/libkkurimyeot.a ## prove the library and write its archive FOR=NAME, a processor of tools/processors
 	@for file in build/"$$FOR"/*kkurimyeot.*; do echo "for $$FOR: $$file"; done
@@ -146,7 +147,7 @@ install: known build/$(FOR)/libkkurimyeot.a ## install library and header FOR=NA
 	[ "$$FOR" != x86-64 ] || rt check checker
 	tools/install "$(PREFIX)" "$(DESTDIR)" $(RELEASE) "$$FOR"
 
-board: known setup build/$(FOR)/libkkurimyeot.a ## run examples/loader.c FOR=NAME, a Cortex-M on an emulated board
+board: known build/$(FOR)/libkkurimyeot.a ## run examples/loader.c FOR=NAME, a Cortex-M on an emulated board
 	tools/firmware "$$FOR" build/"$$FOR"/loader examples/loader.c
 	sed -n '/^01[0-9a-f]*$$/p' docs/FORMAT.md | \
 	    tools/board "$$FOR" build/"$$FOR"/loader 84be85ce9804e94b ec2802d4e0a488e9
@@ -180,10 +181,11 @@ build/compare: build/libsecond.rlib
 %/abuse: %/libsecond.rlib
 	$(RUST) --extern second=$< tests/abuse/main.rs -o $@
 
-# Cases for the boards.
+# Cases for the boards, and how many they are.
 build/cases: build/abuse
 	rm -rf $@
-	$(EMULATOR) build/abuse 6000 cases $@
+	$(EMULATOR) build/abuse 6000 cases $@ > $@.said
+	sed -n 's/^abuse: \([0-9]*\) cases in .*/\1/p' $@.said > $@.count
 
 build/checker: build/libsecond.rlib
 	$(RUST) --extern second=$< tests/checker/main.rs -o $@

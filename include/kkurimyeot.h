@@ -121,7 +121,7 @@
  *
  * This header is for all of them. There is an archive for each
  * (`make archive FOR=NAME`), which needs from outside what is named here and
- * nothing else, so it links into firmware without a C library too:
+ * nothing else:
  *
  *   NAME            processor                       needs from outside
  *   x86-64          x86-64, System V calls          memset
@@ -134,25 +134,29 @@
  *   rv32imc         RISC-V, RV32IMC, ilp32 calls    memcpy, memset
  *   wasm32          WebAssembly with bulk memory    nothing
  *
- * The names with __aeabi are those of Arm's run-time ABI, which every compiler for
- * Arm brings along (libgcc, compiler-rt).
+ * The names with __aeabi are those of Arm's run-time ABI. With GCC, __aeabi_mem..
+ * come with the C library (newlib, picolibc) and the shifts __aeabi_ll.. with
+ * libgcc; compiler-rt has all of them. For firmware without any of these,
+ * examples/board/libc has all that is named here.
  *
  * Stack: less than 4 KiB for any call on any of these, and what the functions from
  * outside take (docs/PERFORMANCE.md has the bytes for each call). No other memory:
  * the archive has no variables.
  *
- * Interrupts: a call may be interrupted anywhere, and may be made by what
- * interrupts another, if the stack is long enough for both. Calls may run at the
- * same time if none of them writes where another reads or writes. No call masks
- * interrupts or waits for anything. On a Cortex-M no register of the floating
- * point unit is used. On x86-64 and aarch64 the vector registers are, and on
- * x86-64 the 128 bytes below the stack pointer: what interrupts has to leave them
- * as they were, as the calling conventions say.
+ * Interrupts: a call may be interrupted anywhere, and an interrupt handler may
+ * make calls, if the stack is long enough for both. Calls may run at the same time
+ * if none of them writes where another reads or writes. No call masks interrupts
+ * or waits for anything. A handler has to restore every register that it changes:
+ * on a Cortex-M the processor sees to that, for a handler that is a plain C
+ * function; on other processors the handler is written for it (GCC and clang:
+ * __attribute__((interrupt))). On a Cortex-M no register of the floating point
+ * unit is used. On x86-64 and aarch64 the vector registers are, and on x86-64 the
+ * 128 bytes below the stack pointer.
  *
  * Unaligned memory: on a Cortex-M4 several bytes are read and written at once,
- * whatever the address. The processor allows that after a reset: leave the bit
- * UNALIGN_TRP of its register CCR as it is. (The same goes for aarch64 and the bit
- * A of SCTLR.)
+ * whatever the address. The processor allows that after a reset, in memory of the
+ * kind Normal: leave the bit UNALIGN_TRP of its register CCR as it is. (The same
+ * goes for aarch64, with its MMU on, and the bit A of SCTLR.)
  *
  * docs/DECISIONS.md says what was looked up of the archives, docs/CONTRACTS.md what
  * is proved of them and what was tested. examples/board/ has a start-up for
@@ -190,7 +194,9 @@ extern "C" {
 #endif
 
 /* The number of bytes at a pointer, which is passed in 64 bits on every processor. */
-#if SIZE_MAX < UINT64_MAX
+#if !defined SIZE_MAX || !defined UINT64_MAX
+#error "stdint.h has to define SIZE_MAX; before C++11, define __STDC_LIMIT_MACROS first"
+#elif SIZE_MAX < UINT64_MAX
 typedef uint64_t kk_size;
 #else
 typedef size_t kk_size;

@@ -10,6 +10,7 @@
  */
 
 #include <stdint.h>
+#include <stdlib.h>
 
 /* Where link.ld has put things. */
 extern uint32_t stack_top, data_start, data_end, bss_start, bss_end;
@@ -17,9 +18,11 @@ extern const uint32_t data_in_flash;
 
 int main(int argc, char **argv);
 void reset(void);
+void say_fault(void);
 int _read(int file, char *bytes, int count);
 int _write(int file, const char *bytes, int count);
 void _exit(int status) __attribute__((noreturn));
+void _fini(void);
 
 /* Operations of semihosting. */
 enum { SYS_OPEN = 0x01, SYS_WRITE = 0x05, SYS_READ = 0x06, SYS_GET_CMDLINE = 0x15, SYS_EXIT_EXTENDED = 0x20 };
@@ -72,21 +75,26 @@ void _exit(int status)
     }
 }
 
-/* Cuts the command line at its blanks, and gives the number of words. */
-static int cut(char *line, char **words, int most)
+/* Newlib's exit() asks for this, which GCC's own start-up files have. */
+__attribute__((weak)) void _fini(void)
+{
+}
+
+/* Cuts the debugger's command line at its blanks, and gives the number of arguments. */
+static int cut(char *command, char **arguments, int most)
 {
     int count = 0;
 
     while (count < most) {
-        while (*line == ' ') {
-            *line++ = 0;
+        while (*command == ' ') {
+            *command++ = 0;
         }
-        if (*line == 0) {
+        if (*command == 0) {
             break;
         }
-        words[count++] = line;
-        while (*line != 0 && *line != ' ') {
-            line++;
+        arguments[count++] = command;
+        while (*command != 0 && *command != ' ') {
+            command++;
         }
     }
     return count;
@@ -94,9 +102,9 @@ static int cut(char *line, char **words, int most)
 
 void reset(void)
 {
-    static char line[128];
-    static char *words[8];
-    uintptr_t parameters[2] = { (uintptr_t)line, sizeof line };
+    static char command[128];
+    static char *arguments[8];
+    uintptr_t parameters[2] = { (uintptr_t)command, sizeof command };
     const uint32_t *from = &data_in_flash;
     uint32_t *to;
 
@@ -104,6 +112,7 @@ void reset(void)
     /* Compiled to use the floating point unit, which is off after a reset. The library
        does not use it. */
     *(volatile uint32_t *)0xE000ED88 |= 0xF00000;
+    __asm__ volatile("dsb\n isb" ::: "memory");
 #endif
     for (to = &data_start; to < &data_end; to++) {
         *to = *from++;
@@ -113,13 +122,13 @@ void reset(void)
     }
     open_console();
     if (semihost(SYS_GET_CMDLINE, parameters) != 0) {
-        line[0] = 0;
+        command[0] = 0;
     }
-    _exit(main(cut(line, words, 8), words));
+    exit(main(cut(command, arguments, 8), arguments));
 }
 
-/* A fault, the end of the stack among them, ends the run. */
-static void fault(void)
+/* A fault ends the run. It may have been the end of the stack, so the stack begins anew. */
+void say_fault(void)
 {
     static const char said[] = "fault\n";
 
@@ -127,9 +136,15 @@ static void fault(void)
     _exit(70);
 }
 
+__attribute__((naked)) static void fault(void)
+{
+    __asm__("ldr r0, 1f\n mov sp, r0\n ldr r0, 2f\n bx r0\n"
+            ".balign 4\n1: .word stack_top\n2: .word say_fault\n");
+}
+
 /* The first words of flash: where the stack starts, and where the processor goes after a
    reset and with a fault. Interrupts come behind them: the library needs none, and none
-   disturbs it as long as its handler keeps to the calling convention. */
+   disturbs it. */
 struct vectors {
     uint32_t *stack;
     void (*handlers[15])(void);

@@ -1,7 +1,8 @@
 /*
  * What a compiler for Arm calls for copying and clearing memory, and, on a Cortex-M0, for
- * shifts of 64 bits and for division: the names of Arm's run-time ABI. Every compiler for
- * Arm brings them along (libgcc, compiler-rt), so this too is left out by whoever has one.
+ * shifts of 64 bits and for division: the names of Arm's run-time ABI. C libraries for Arm
+ * have the first, libgcc has the others, and compiler-rt all of them, so this too is left
+ * out by whoever has these.
  */
 
 #include <stdint.h>

@@ -1,5 +1,5 @@
-// Prints how long a block takes in node by the module for wasm32: the best of thirty times two thousand.
-//   node module.mjs MODULE
+// Prints how long a block takes in node by the wasm module: the best of thirty times two thousand.
+//   node wasm.mjs WASM
 import fs from 'node:fs';
 
 const { instance } = await WebAssembly.instantiate(fs.readFileSync(process.argv[2]));

@@ -1,7 +1,7 @@
-// Calls the module for wasm32 as a page in a browser would: with the cases that the second program made, of which
+// Calls the wasm module as a page in a browser would: with the cases that the second program made, of which
 // tests/board/cases.c says how they are written. The module needs nothing from outside, and exports every call of
 // the header, its memory, and the place from which on the memory is the caller's.
-//   node module.mjs MODULE HEADER CASES..
+//   node wasm.mjs WASM HEADER CASES..
 import fs from 'node:fs';
 import assert from 'node:assert/strict';
 
@@ -59,11 +59,13 @@ function attempt(one, fill) {
 
 for (const file of files) {
     const bytes = fs.readFileSync(file);
-    for (let at = 0, one; bytes[at] !== 0xFF; count++) {
+    let at = 0;
+    for (let one; bytes[at] !== 0xFF; count++) {
         [one, at] = read(bytes, at);
         for (const fill of [0xA5, 0x5A]) {
             attempt(one, fill);
         }
     }
+    assert.equal(at, bytes.length - 1);
 }
-console.log(`module: ${declared.length} calls, ${count} cases, all as meant`);
+console.log(`wasm: ${declared.length} calls, ${count} cases, all as meant`);
