@@ -5,6 +5,7 @@ RUSTC := rustc
 CC := gcc
 EMULATOR :=
 WATCHED := build/abuse
+MARKED := build/marked
 TIMED := build/bench
 CHECKER := tools/run checker
 SECOND := build/second
@@ -14,6 +15,7 @@ RUSTC := /usr/bin/rustc --target x86_64-unknown-linux-gnu -C linker=x86_64-linux
 CC := x86_64-linux-gnu-gcc
 EMULATOR := /usr/bin/qemu-x86_64
 WATCHED := build/aarch64/abuse
+MARKED := build/aarch64/marked
 TIMED := build/aarch64/bench
 CHECKER := build/aarch64/checker
 SECOND := build/aarch64/second
@@ -35,8 +37,11 @@ RELEASE = 0.1.0
 
 PROCESSORS := $(shell tools/processor)
 
+# Those whose instructions an emulator can follow.
+TRACED := $(filter-out wasm32,$(PROCESSORS))
+
 # The longest first.
-TESTS = compare checker abuse $(PROCESSORS:%=for-%) unit refused loader watched calls example first install layout
+TESTS = compare checker abuse $(PROCESSORS:%=for-%) unit refused loader $(TRACED:%=traced-%) watched marked calls example first install layout
 
 .PHONY: help run example check test tests $(TESTS:%=test-%) times bench known archive install board setup clean always
 .SECONDARY:
@@ -98,6 +103,13 @@ test-abuse: build/abuse
 test-watched: $(WATCHED)
 	valgrind -q --error-exitcode=1 $(WATCHED) 1000 exact
 
+# Nothing secret decides a branch or an address.
+test-marked: $(MARKED) build/cases
+	tests/marked $(MARKED) build/cases/*
+
+$(TRACED:%=test-traced-%): test-traced-%: build/%/libkkurimyeot.a build/cases build/plugin.so
+	tests/traced $*
+
 test-checker: build/checker
 	$(EMULATOR) build/checker try tools/run checker
 
@@ -139,6 +151,7 @@ bench: setup build/bench $(TIMED) build/checker $(SECOND) build/used build/cases
 	$(if $(EMULATOR),bench/native $(CHECKER),rt check checker)
 	bench/listing "$(EMULATOR) build/checker lines" build/used "$(CHECKER)" $(SECOND)
 	bench/processors
+	bench/variable
 
 archive: known build/$(FOR)/libkkurimyeot.a ## prove the library and write its archive FOR=NAME, a processor of tools/processors
 	@for file in build/"$$FOR"/*kkurimyeot.*; do echo "for $$FOR: $$file"; done
@@ -199,6 +212,14 @@ build/unit: build/libkkurimyeot.a
 build/used: bench/used.c
 	mkdir -p $(@D)
 	gcc -std=gnu99 -pedantic -Wall -Wextra -Werror -O2 $< -o $@
+
+# For the machine at hand, and its valgrind.
+%/marked: %/libkkurimyeot.a tests/secrets/marked.c
+	gcc -std=gnu99 -Wall -Wextra -Werror -O2 -I include -I tests/board tests/secrets/marked.c $< -o $@
+
+build/plugin.so: tests/secrets/plugin.c
+	mkdir -p $(@D)
+	gcc -std=gnu99 -Wall -Wextra -Werror -O2 -fPIC -shared -fvisibility=hidden $< -o $@
 
 build/calls build/example: build/libkkurimyeot.a
 	$(C99) -I include tests/$(@F).c $< -o $@

@@ -11,7 +11,7 @@
 //! of it. All memory is warm. An input's index is the tweak of a block and the serial of a frame.
 
 use second::ffi;
-use second::frame;
+use second::frame::{self, Refusal};
 use second::opaque;
 use second::qarma::{self, Key, Schedule};
 use second::rng::Rng;
@@ -31,6 +31,9 @@ const FRAMES: usize = BLOCKS * 8 / MESSAGE;
 const MESSAGE: usize = 1_024;
 const LABEL: usize = 32;
 const SEALED: usize = MESSAGE + 8;
+
+/// Bytes of a message with as many sealed bytes whose last block is filled.
+const FILLED: u64 = MESSAGE as u64 - 1;
 
 /// What is known at run time only. The settings are box and rounds.
 struct Given {
@@ -110,6 +113,42 @@ const OPEN: Call<[u8; SEALED]> = Call {
     inputs: sealed,
 };
 
+/// Opening frames whose last block is filled, as they were sealed, and as they are refused: `inputs` has
+/// a wrong tag, or a wrong fill under the tag that belongs to it. Nothing is written for these.
+const OPEN_FILLED: Call<[u8; SEALED]> = Call {
+    name: "as sealed",
+    answer: MESSAGE,
+    library: |given, serial, sealed, place| {
+        let answer = ffi::open(given.key, serial, FILLED, &given.label, sealed, place);
+        assert_eq!(answer, FILLED);
+    },
+    second: |given, serial, sealed, place| {
+        let answer = frame::open(given.key, serial, FILLED, &given.label, sealed, place);
+        assert_eq!(answer, Ok(FILLED as usize));
+    },
+    inputs: |given, count| filled(given, count, 0, 0),
+};
+
+const OPEN_WRONG_TAG: Call<[u8; SEALED]> = Call {
+    name: "wrong tag",
+    library: |given, serial, sealed, place| {
+        let answer = ffi::open(given.key, serial, FILLED, &given.label, sealed, place);
+        assert_eq!(answer, (Refusal::Tag as u64) << 56);
+    },
+    second: |given, serial, sealed, place| {
+        let answer = frame::open(given.key, serial, FILLED, &given.label, sealed, place);
+        assert_eq!(answer, Err(Refusal::Tag));
+    },
+    inputs: |given, count| filled(given, count, 0, 1),
+    ..OPEN_FILLED
+};
+
+const OPEN_WRONG_FILL: Call<[u8; SEALED]> = Call {
+    name: "wrong fill",
+    inputs: |given, count| filled(given, count, 1, 0),
+    ..OPEN_WRONG_TAG
+};
+
 fn put(answer: u64, place: &mut [u8]) {
     place.copy_from_slice(&answer.to_be_bytes());
 }
@@ -134,6 +173,26 @@ fn sealed(given: &Given, count: usize) -> Vec<[u8; SEALED]> {
         (SEAL.second)(given, serial as u64, message, &mut out[serial]);
     }
     out
+}
+
+/// The same without their last byte, sealed; these bits of the last block are changed before that, and
+/// these of the last byte of the tag after it.
+fn filled(given: &Given, count: usize, last_block: u64, tag: u8) -> Vec<[u8; SEALED]> {
+    let seal = |(serial, message): (usize, [u8; MESSAGE])| {
+        let length = FILLED as usize;
+        let mut blocks: Vec<u64> = frame::blocks(&message[..length]).collect();
+        *blocks.last_mut().expect("a block") ^= last_block;
+        let blocks = blocks.into_iter();
+        let sealed = frame::seal_blocks(given.key, serial as u64, &given.label, length, blocks);
+        let mut sealed: [u8; SEALED] = sealed.try_into().expect("as many bytes");
+        sealed[SEALED - 1] ^= tag;
+        sealed
+    };
+    messages(given, count)
+        .into_iter()
+        .enumerate()
+        .map(seal)
+        .collect()
 }
 
 impl<I> Call<I> {
@@ -220,6 +279,13 @@ fn times(given: &Given) {
     SEAL.row(given, FRAMES, FRAMES);
     let opened = OPEN.row(given, FRAMES, FRAMES);
     assert_eq!(opened, messages(given, FRAMES).concat());
+    println!();
+    println!("ns for kk_open of a frame, message of {FILLED} bytes and label of {LABEL}");
+    println!("                    ------- best ---------  ------ median --------");
+    println!("frame        frames   library   second  ratio   library   second  ratio");
+    for call in [OPEN_FILLED, OPEN_WRONG_TAG, OPEN_WRONG_FILL] {
+        call.row(given, FRAMES, FRAMES);
+    }
 }
 
 fn main() {

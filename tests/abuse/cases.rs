@@ -1,4 +1,4 @@
-//! Files of cases for the boards: calls, with what the second program says of them. `tests/board/cases.c`
+//! Files of cases for the boards: calls, with what the second program says of them. `tests/board/calls.h`
 //! says how they are written.
 
 use second::calls::blocks;

@@ -4,19 +4,10 @@
  * two fills. Prints the deepest stack of each call, and fails if one takes what the header
  * says that none does.
  *
- * A file of cases lies in flash, CASES being its name. A case is
- *
- *   1 byte   which call, in the order of kkurimyeot.h
- *   8 each   its numbers
- *   4 + n    each slice that is read: its length, and its bytes
- *   4        the length of the lent memory
- *   8        the number that is returned
- *   n        the bytes that are written, as many as that number says
- *
- * with the most significant byte of each number first. After the last comes a byte 0xFF.
+ * A file of cases (calls.h) lies in flash, CASES being its name.
  */
 
-#include "kkurimyeot.h"
+#include "calls.h"
 
 #include <stdio.h>
 #include <stdlib.h>
@@ -25,30 +16,8 @@ static const uint8_t cases[] = {
 #embed CASES
 };
 
-enum { SCHEDULE, TURN, ENGINE, ENCIPHER, DECIPHER, SEAL, OPEN, READ_LINE, WRITE_LINE, OPEN_LINE, CALLS };
-
-/* Name, numbers and slices that are read of each call, and the deepest stack seen. */
-static struct {
-    const char *name;
-    int numbers, slices;
-    uint32_t deepest;
-} calls[CALLS] = {
-    { "kk_schedule", 2, 0, 0 },  { "kk_turn", 4, 0, 0 },       { "kk_engine", 8, 0, 0 },
-    { "kk_encipher", 6, 0, 0 },  { "kk_decipher", 6, 0, 0 },   { "kk_seal", 3, 2, 0 },
-    { "kk_open", 4, 2, 0 },      { "kk_read_line", 0, 1, 0 },  { "kk_write_line", 3, 2, 0 },
-    { "kk_open_line", 2, 1, 0 },
-};
-
-/* A case: what is handed in, and what is meant to come of it. */
-struct one {
-    unsigned call;
-    uint64_t numbers[8];
-    const uint8_t *slices[2];
-    kk_size lengths[2];
-    kk_size lent;
-    uint64_t answer;
-    const uint8_t *written;
-};
+/* The deepest stack seen of each call. */
+static uint32_t deepest[CALL_COUNT];
 
 /* The lent memory lies somewhere in this, at every alignment. */
 #define GUARD 32
@@ -67,39 +36,24 @@ static void fail(const char *what)
     exit(1);
 }
 
-#define LENGTH_BYTES 4
-static uint32_t length_at(const uint8_t *bytes)
+/* Reads the case at a place, and gives the place behind it. A slice of length 0 is NULL in every second case. */
+static const uint8_t *next_case(const uint8_t *at, struct one *one)
 {
-    return (uint32_t)bytes[0] << 24 | (uint32_t)bytes[1] << 16 | (uint32_t)bytes[2] << 8 | bytes[3];
-}
+    size_t i;
 
-/* Reads the case at a place, and gives the place behind it. */
-static const uint8_t *read_case(const uint8_t *at, struct one *one)
-{
-    int i;
-
-    one->call = *at++;
-    if (one->call >= CALLS) {
+    at = read_case(at, one);
+    if (!at) {
         fail("no such call");
     }
-    for (i = 0; i < calls[one->call].numbers; i++, at += KK_WORD_BYTES) {
-        one->numbers[i] = kk_word(at);
-    }
-    for (i = 0; i < calls[one->call].slices; i++) {
-        one->lengths[i] = length_at(at);
-        one->slices[i] = at + LENGTH_BYTES;
-        at += LENGTH_BYTES + length_at(at);
+    for (i = 0; calls[one->call].slices[i]; i++) {
         if (one->lengths[i] == 0 && number_of_case % 2 == 0) {
             one->slices[i] = NULL;
         }
     }
-    one->lent = length_at(at);
-    one->answer = kk_word(at + LENGTH_BYTES);
-    one->written = at + LENGTH_BYTES + KK_WORD_BYTES;
     if (one->lent > LENT_MAX) {
         fail("too much memory to lend");
     }
-    return one->written + (kk_refusal(one->answer) == KK_NOT_REFUSED ? kk_count(one->answer) : 0);
+    return at;
 }
 
 static uint8_t *stack_pointer(void);
@@ -127,51 +81,16 @@ static inline __attribute__((always_inline)) uint8_t *stack_pointer(void)
 static __attribute__((noinline)) uint64_t call_painted(const struct one *one, uint8_t *out, uint8_t paint)
 {
     volatile uint8_t *const top = stack_pointer(), *at;
-    const uint64_t *n = one->numbers;
-    const uint8_t *const *s = one->slices;
-    const kk_size *l = one->lengths;
-    const kk_size room = one->lent;
-    uint64_t answer = 0;
+    uint64_t answer;
 
     for (at = top - PAINTED; at < top; at++) {
         *at = paint;
     }
-    switch (one->call) {
-    case SCHEDULE:
-        answer = kk_schedule(n[0], n[1], out, room);
-        break;
-    case TURN:
-        answer = kk_turn(n[0], n[1], n[2], n[3], out, room);
-        break;
-    case ENGINE:
-        answer = kk_engine(n[0], n[1], n[2], n[3], n[4], n[5], n[6], n[7], out, room);
-        break;
-    case ENCIPHER:
-        answer = kk_encipher(n[0], n[1], n[2], n[3], n[4], n[5], out, room);
-        break;
-    case DECIPHER:
-        answer = kk_decipher(n[0], n[1], n[2], n[3], n[4], n[5], out, room);
-        break;
-    case SEAL:
-        answer = kk_seal(n[0], n[1], n[2], s[0], l[0], s[1], l[1], out, room);
-        break;
-    case OPEN:
-        answer = kk_open(n[0], n[1], n[2], n[3], s[0], l[0], s[1], l[1], out, room);
-        break;
-    case READ_LINE:
-        answer = kk_read_line(s[0], l[0], out, room);
-        break;
-    case WRITE_LINE:
-        answer = kk_write_line(n[0], n[1], n[2], s[0], l[0], s[1], l[1], out, room);
-        break;
-    case OPEN_LINE:
-        answer = kk_open_line(n[0], n[1], s[0], l[0], out, room);
-        break;
-    }
+    answer = made(one, out);
     for (at = top - PAINTED; at < top && *at == paint; at++) {
     }
-    if ((uint32_t)(top - at) > calls[one->call].deepest) {
-        calls[one->call].deepest = (uint32_t)(top - at);
+    if ((uint32_t)(top - at) > deepest[one->call]) {
+        deepest[one->call] = (uint32_t)(top - at);
     }
     return answer;
 }
@@ -185,7 +104,7 @@ static uint8_t filled(size_t place, uint8_t fill)
 static void try_case(const struct one *one, uint8_t fill)
 {
     const size_t start = GUARD + number_of_case % 8;
-    const uint32_t written = kk_refusal(one->answer) == KK_NOT_REFUSED ? kk_count(one->answer) : 0;
+    const uint32_t written = written_by(one->answer);
     size_t i;
 
     for (i = 0; i < sizeof memory; i++) {
@@ -210,16 +129,16 @@ int main(void)
     int i;
 
     for (; *at != 0xFF; number_of_case++) {
-        at = read_case(at, &one);
+        at = next_case(at, &one);
         try_case(&one, 0xA5);
         try_case(&one, 0x5A);
     }
     if (at != cases + sizeof cases - 1) {
         fail("not the last one");
     }
-    for (i = 0; i < CALLS; i++) {
-        printf("stack %s %u\n", calls[i].name, (unsigned)calls[i].deepest);
-        if (calls[i].deepest >= STACK_MAX) {
+    for (i = 0; i < CALL_COUNT; i++) {
+        printf("stack %s %u\n", calls[i].name, (unsigned)deepest[i]);
+        if (deepest[i] >= STACK_MAX) {
             fail("a call took more stack than the header says");
         }
     }

@@ -1,11 +1,11 @@
 // Calls the wasm module as a page in a browser would: with the cases that the second program made, of which
-// tests/board/cases.c says how they are written. The module needs nothing from outside, and exports every call of
+// tests/board/calls.h says how they are written. The module needs nothing from outside, and exports every call of
 // the header, its memory, and the place from which on the memory is the caller's.
-//   node wasm.mjs WASM HEADER CASES..
+//   node wasm.mjs WASM HEADER CALLS CASES..
 import fs from 'node:fs';
 import assert from 'node:assert/strict';
 
-const [, , file, header, ...files] = process.argv;
+const [, , file, header, table, ...files] = process.argv;
 const module = await WebAssembly.compile(fs.readFileSync(file));
 const declared = [...fs.readFileSync(header, 'utf8').matchAll(/^uint64_t (kk_\w+)\(/gm)].map(([, name]) => name);
 assert.deepEqual(WebAssembly.Module.imports(module), []);
@@ -13,8 +13,9 @@ const exported = WebAssembly.Module.exports(module).map(({ name }) => name);
 assert.deepEqual(exported.sort(), [...declared, 'memory', '__heap_base'].sort());
 
 // Of each call, in the header's order: how many numbers it takes, and how many slices it reads.
-const shapes = [[2, 0], [4, 0], [8, 0], [6, 0], [6, 0], [3, 2], [4, 2], [0, 1], [3, 2], [2, 1]];
-assert.equal(shapes.length, declared.length);
+const rows = fs.readFileSync(table, 'utf8').matchAll(/^ +CALL\((kk_\w+), "(\w*)", "(\w*)",/gm);
+const shapes = [...rows].map(([, name, numbers, slices]) => [name, numbers.length, slices.length]);
+assert.deepEqual(shapes.map(([name]) => name), declared);
 
 const { exports: library } = await WebAssembly.instantiate(module);
 const { memory } = library;
@@ -26,7 +27,7 @@ let count = 0;
 // Reads the case at a place of some bytes, and gives it with the place behind it.
 function read(bytes, at) {
     const call = bytes[at++];
-    const [numbers, slices] = shapes[call];
+    const [, numbers, slices] = shapes[call];
     const number = () => bytes.readBigUInt64BE((at += 8) - 8);
     const length = () => bytes.readUInt32BE((at += 4) - 4);
     const slice = (size) => bytes.subarray((at += size) - size, at);

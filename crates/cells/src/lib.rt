@@ -75,11 +75,38 @@ fn wide(x: u8) -> u64
     x as u64
 }
 
+// The same as a number of 32 bits.
+fn half_wide(x: u8) -> u32
+    ensures { λ r. ⌜ r ≡ x ⌝ }
+{
+    x as u32
+}
+
+// Whether a box is looked up in halves. Its contract leaves the answer open, so that a cell is looked up right either way. A processor
+// of 32 bits shifts a word by a cell with a branch or a call: there `tools/archive` has it answer yes.
+fn in_halves() -> bool {
+    false
+}
+
+// The output of a box for one cell, by shifts of 32 bits: from one half of the box or from the other.
+fn look_up_in_halves(table: u64, x: u8) -> u8
+    requires { ⌜ x < 16 ⌝ }
+    ensures { λ r. ⌜ r ≡ nibbles table ! x ⌝ }
+{
+    let s = 4 * half_wide(x % 8);
+    let low = ((table % 0x100000000) as u32 >> s) % 16;
+    let high = ((table / 0x100000000 % 0x100000000) as u32 >> s) % 16;
+    (low ^ (low ^ high) & 15 * half_wide(x / 8)) as u8
+}
+
 // The output of a box for one cell.
 fn look_up(table: u64, x: u8) -> u8
     requires { ⌜ x < 16 ⌝ }
     ensures { λ r. ⌜ r ≡ nibbles table ! x ⌝ }
 {
+    if in_halves() {
+        return look_up_in_halves(table, x);
+    }
     (table >> (4 * wide(x)) & 15) as u8
 }
 

@@ -1,5 +1,6 @@
 pub mod Laws
 pub mod Parts
+pub mod Differences
 pub mod Fills
 pub mod Opening
 pub mod Limits

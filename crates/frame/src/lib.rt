@@ -6,6 +6,7 @@ use refusals::Refusal;
 ghost use mathlib.Core.Path.{_≡_};
 ghost use Prim.Native.Nat.{_+_, _*_, _/_, _^_, _<_, _≤_};
 ghost use mathlib.Core.List.{_++_};
+ghost use lib.Dec.{eqb};
 ghost use lib.ListN.{length, getD, take, drop};
 ghost use Rattle.words.specs.Digits.{word, laid};
 ghost use Rattle.words.specs.Lists.{sum, upto};
@@ -217,29 +218,28 @@ fn put_message(n: usize, plain: &[u64], out: &mut [u8])
     words::write(&mut out[at..n], 8, w);
 }
 
-// Whether the last of the blocks of a message of n bytes is filled as it must be.
-fn fill_right(n: usize, plain: &[u64]) -> bool
+// The bits in which the last of the blocks of a message of n bytes differs from one that is filled as it must be: none where it is right, or whole.
+fn fill_difference(n: usize, plain: &[u64]) -> u64
     requires { ⌜ blocks n ≤ length (now plain) ⌝ }
-    ensures { λ r. ⌜ r ≡ fillRight n (getD (now (plain .entry)) (n / 8) 0) ⌝ }
+    ensures { λ r. ⌜ eqb r 0 ≡ fillRight n (getD (now (plain .entry)) (n / 8) 0) ⌝ }
 {
     let r = n % 8;
     if r == 0 {
-        return true;
+        return 0;
     }
-    plain[n / 8] % (1u64 << (64 - r * 8)) == 1u64 << (63 - r * 8)
+    plain[n / 8] % (1u64 << (64 - r * 8)) ^ 1u64 << (63 - r * 8)
 }
 
-// Whether the tag agrees, and the fill: plain has the deciphered blocks.
+// Whether the tag agrees, and the fill: plain has the deciphered blocks. Both are reckoned, and one comparison decides.
 fn agrees(s: Schedule, serial: u64, label: &[u8], n: usize, sealed: &[u8], plain: &[u64]) -> bool
     requires { ⌜ ((ScheduleBelow 4 s × (serial < 2 ^ 44)) × ((length (now label) ≤ 32) × (n ≤ 1024))) × ((length (now sealed) ≡ sealedSize n) × ((blocks n ≤ length (now plain)) × (take (blocks n) (now plain) ≡ upto (blocks n) (openedBlock (turned qarma64 s) serial n (now sealed))))) ⌝ }
     ensures { λ r. ⌜ r ≡ accepted s serial (now (label .entry)) n (now (sealed .entry)) ⌝ }
 {
-    if !fill_right(n, plain) {
-        return false;
-    }
     let b = (n + 7) / 8;
     let at = b * 8;
-    tag(s, serial, label, n, sum_words(&plain[..b])) == words::read(&sealed[at..at + 8], 8)
+    let t = tag(s, serial, label, n, sum_words(&plain[..b]));
+    let tag_difference = t ^ words::read(&sealed[at..at + 8], 8);
+    fill_difference(n, plain) | tag_difference == 0
 }
 
 // Seals a message under a key, a serial and a label.

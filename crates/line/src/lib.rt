@@ -181,15 +181,12 @@ pub fn read(s: &[u8]) -> Reading
     }
 }
 
-// The byte of a digit.
+// The byte of a digit, without a branch: a digit may be part of what was reckoned from a secret.
 fn digit_byte(d: u8) -> u8
     requires { ⌜ d < 16 ⌝ }
     ensures { λ r. ⌜ r ≡ hexDigit d ⌝ }
 {
-    if d < 10 {
-        return d + 48;
-    }
-    d + 87
+    d + 48 + (d + 6) / 16 * 39
 }
 
 // Writes the last digits of a number over all of out.

@@ -1,4 +1,4 @@
--- `look_up` meets its contract: the cell that is shifted down and masked is the one that the table has there.
+-- `look_up` meets its contract, whichever way it goes: by halves, or because the cell that is shifted down and masked is the one that the table has there.
 use borrow.Author.Needs.{needs}
 use mathlib.Core.Path.{sym, _∙_}
 use Prim.Native.Nat.{_*_, _/_, _%_, _^_}
@@ -15,10 +15,14 @@ look-up-spec =
     tie.close
     (tie.spec
     (λ c κs. search needs)
+    (λ c κs. search needs)
+    (λ c. search needs)
+    (λ c κs. search needs)
     (λ c. search needs)
     (λ c. search needs)
-    (λ c. omega (arith, mask-lt (c .before .args .table / 2 ^ (4 * c .wide .result)) 4))
+    (λ c. omega (arith, mask-lt (c .before .before .before .args .table / 2 ^ (4 * c .wide .result)) 4))
     (λ c.
+    let entry = c .before .before .before in
     rw (c .wide .ensures)
-    (and-mask (c .before .args .table / 2 ^ (4 * c .before .args .x)) 4
-    ∙ sym (upto-at 16 (λ v. c .before .args .table / 2 ^ (4 * v) % 16) (c .before .args .x) (c .before .pre)))))
+    (and-mask (entry .args .table / 2 ^ (4 * entry .args .x)) 4
+    ∙ sym (upto-at 16 (λ v. entry .args .table / 2 ^ (4 * v) % 16) (entry .args .x) (entry .pre)))))
