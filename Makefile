@@ -41,7 +41,7 @@ PROCESSORS := $(shell tools/processor)
 TRACED := $(filter-out wasm32,$(PROCESSORS))
 
 # The longest first.
-TESTS = compare checker abuse $(PROCESSORS:%=for-%) unit refused loader $(TRACED:%=traced-%) watched marked calls example first install layout
+TESTS = compare checker abuse $(PROCESSORS:%=for-%) unit refused loader $(TRACED:%=traced-%) watched marked variable calls example first install layout
 
 .PHONY: help run example check test tests $(TESTS:%=test-%) times bench known archive install board setup clean always
 .SECONDARY:
@@ -105,10 +105,13 @@ test-watched: $(WATCHED)
 
 # Nothing secret decides a branch or an address.
 test-marked: $(MARKED) build/cases
-	tests/marked $(MARKED) build/cases/*
+	tests/marked $(MARKED)
 
 $(TRACED:%=test-traced-%): test-traced-%: build/%/libkkurimyeot.a build/cases build/plugin.so
 	tests/traced $*
+
+test-variable: $(PROCESSORS:%=build/%/libkkurimyeot.a)
+	bench/variable
 
 test-checker: build/checker
 	$(EMULATOR) build/checker try tools/run checker
@@ -214,7 +217,7 @@ build/used: bench/used.c
 	gcc -std=gnu99 -pedantic -Wall -Wextra -Werror -O2 $< -o $@
 
 # For the machine at hand, and its valgrind.
-%/marked: %/libkkurimyeot.a tests/secrets/marked.c
+%/marked: %/libkkurimyeot.a
 	gcc -std=gnu99 -Wall -Wextra -Werror -O2 -I include -I tests/board tests/secrets/marked.c $< -o $@
 
 build/plugin.so: tests/secrets/plugin.c

@@ -7,8 +7,8 @@
 //! Both are built for release: the second program at rustc's opt-level 3, the library as
 //! `rt staticlib` builds it. By both alike, an input is taken from a slice (a word for a block, bytes
 //! for a frame) and its answer written into its own place of an output slice, a block's as 8 bytes.
-//! The output is zeros when it is made and is not cleared between passes: each pass writes every byte
-//! of it. All memory is warm. An input's index is the tweak of a block and the serial of a frame.
+//! The output is zeros when it is made and is not cleared between passes: each pass writes the same
+//! bytes of it. All memory is warm. An input's index is the tweak of a block and the serial of a frame.
 
 use second::ffi;
 use second::frame::{self, Refusal};
@@ -175,8 +175,8 @@ fn sealed(given: &Given, count: usize) -> Vec<[u8; SEALED]> {
     out
 }
 
-/// The same without their last byte, sealed; these bits of the last block are changed before that, and
-/// these of the last byte of the tag after it.
+/// Frames of these messages without their last byte. `last_block` is added to the last block before
+/// sealing, `tag` to the last byte of the tag after it.
 fn filled(given: &Given, count: usize, last_block: u64, tag: u8) -> Vec<[u8; SEALED]> {
     let seal = |(serial, message): (usize, [u8; MESSAGE])| {
         let length = FILLED as usize;

@@ -165,30 +165,33 @@
  *
  * Secrets, and what the time of a call can tell
  *
- * Secret are keys, schedule words, tweaks, blocks and messages, and what is
- * reckoned from them. Public are box, rounds, serials, lengths, labels, sealed
- * bytes, lines, and whether a frame opened.
+ * Secret are keys, schedule words, blocks and messages, a tweak too, though it need
+ * not be, and what is reckoned from them up to sealed bytes and lines. Public are
+ * box, rounds, serials, lengths, labels, sealed bytes, lines, and whether a frame
+ * opened.
  *
  * Nothing secret decides which instruction is executed next, or which address is
  * read or written, but for one decision of kk_open() and of kk_open_line(): whether
  * the frame opened. A wrong fill goes the same way as a wrong tag. kk_read_line()
- * has no secret: a line is public text.
+ * has no secret: a line is public text. Functions from outside get secrets to copy
+ * or to shift, never as a length or as a number of places.
  *
  * That is tested and not proved, by 6,000 calls of all functions with every kind
  * of answer, of the archives as they are built (`make test`): on the machine of the
  * tests, x86-64 or aarch64, by valgrind, with all that is secret marked as undefined;
- * and in emulators for x86-64, aarch64, Cortex-M4, Cortex-M0+ and RV32IMC, by
- * comparing each instruction and each address with those of the same call with other
- * secrets. For wasm32 it is not tested: whoever runs the module compiles it again.
+ * and in emulators for x86-64, aarch64, Cortex-M4, Cortex-M0+ (a Cortex-M0) and
+ * RV32IMC, by comparing each instruction and each address with those of the same
+ * call with other secrets. For wasm32 it is not tested: whoever runs the module
+ * compiles it again.
  *
- * How long one instruction takes is the processor's matter. The archives have no
- * division. They multiply only where digits of a line are written, and these are
- * public; so a multiplication that ends early for small numbers tells nothing. They
- * do shift by secrets: a box is looked up by a shift by a cell. On a processor that
- * shifts one place after another, as the smallest RISC-V cores do, time therefore
- * depends on keys and blocks. On x86-64, aarch64 and Cortex-M a shift takes as long
- * for any number of places. docs/PERFORMANCE.md says which functions have such
- * instructions.
+ * How long an instruction takes is the processor's matter. The archives have no
+ * division. They multiply only where the digits of a line are written, which are
+ * public, so a multiplication that ends early for small numbers tells nothing. They
+ * do shift by secrets: a box is looked up by a shift by a cell. A core that shifts
+ * place by place (SERV, or PicoRV32 without its barrel shifter) therefore tells
+ * something of keys and blocks by its time. Of Cortex-M, aarch64 and x86-64 we know
+ * none that does; newer ones promise it only in a mode that the system sets
+ * (PSTATE.DIT, DOITM). docs/PERFORMANCE.md says where such instructions are.
  *
  *
  * Not promised

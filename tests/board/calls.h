@@ -19,13 +19,13 @@
 
 /*
  * Secret are keys, schedule words, tweaks, blocks and messages, and what is reckoned from
- * them: the blocks that opening deciphers, for one. Public are box, rounds, serials,
- * lengths, labels, sealed bytes, lines, and whether a frame opened.
+ * them up to sealed bytes and lines: the blocks that opening deciphers, for one. Public are
+ * box, rounds, serials, lengths, labels, sealed bytes, lines, and whether a frame opened.
  *
  * Of each call: its name; each of its numbers, and each slice that it reads, s for secret or
- * p for public; how often a secret decides in a call that is taken or finds that tag or fill
- * disagrees (whether the frame opened: once, or there is nothing to open); and what is handed
- * to it before the lent memory.
+ * p for public (wasm.mjs holds that to the names in the header); how often a secret decides
+ * in a call that is taken or refused 6: once, whether the frame opened, or 0 where nothing is
+ * opened; and what is handed to it before the lent memory.
  */
 #define CALLS(CALL)                                                                                   \
     CALL(kk_schedule, "ss", "", 0, n[0], n[1])                                                        \
@@ -56,11 +56,22 @@ struct one {
 #define NUMBER_OF(name, ...) CALL_##name,
 enum { CALLS(NUMBER_OF) CALL_COUNT };
 
+#define FITS(name, numbers, slices, ...)                                           \
+    _Static_assert(sizeof(numbers) <= NUMBERS_MAX + 1, #name " has more numbers"); \
+    _Static_assert(sizeof(slices) <= SLICES_MAX + 1, #name " has more slices");
+CALLS(FITS)
+
 #define ROW(name, numbers, slices, decisions, ...) { #name, numbers, slices, decisions },
 static const struct {
     const char *name, *numbers, *slices;
     unsigned decisions;
 } calls[CALL_COUNT] = { CALLS(ROW) };
+
+/* Whether a call was taken, or refused only because tag or fill disagrees. */
+static inline int taken_or_6(uint64_t answer)
+{
+    return kk_refusal(answer) == KK_NOT_REFUSED || kk_refusal(answer) == KK_REFUSED_DISAGREES;
+}
 
 /* How many bytes a returned number says were written. */
 static inline uint32_t written_by(uint64_t answer)

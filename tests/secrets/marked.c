@@ -6,9 +6,9 @@
  *   marked CASES..    under valgrind, by tests/marked
  *
  * It counts the reports of every call. The answer and all memory are compared with what the
- * second program says, and the returned number has to be defined: a secret has entered into it
- * by that decision or not at all. First it tries itself on two calls of its own that a secret
- * does decide in.
+ * second program says. The returned number has to be defined: a secret has entered into it by
+ * that decision or not at all; and what is written has not, where there was a secret. First
+ * it tries itself on two functions of its own that a secret does decide in.
  */
 
 #include "calls.h"
@@ -38,12 +38,18 @@ static uint8_t filled(size_t place)
     return (uint8_t)(0xA5 ^ place * 29);
 }
 
-/* ---- two calls that a secret decides in */
+/* ---- two functions that a secret decides in */
+
+#ifdef __clang__
+#define LEAKY __attribute__((noinline)) uint64_t
+#else
+#define LEAKY __attribute__((noinline, noclone)) uint64_t
+#endif
 
 static volatile uint64_t seen;
 static volatile uint8_t table[256];
 
-static __attribute__((noinline)) uint64_t leaky_branch(uint64_t word)
+static LEAKY leaky_branch(uint64_t word)
 {
     if (word % 3 == 1) {
         seen++;
@@ -51,7 +57,7 @@ static __attribute__((noinline)) uint64_t leaky_branch(uint64_t word)
     return 0;
 }
 
-static __attribute__((noinline)) uint64_t leaky_index(uint64_t word)
+static LEAKY leaky_index(uint64_t word)
 {
     seen = table[word % 256];
     return 0;
@@ -82,7 +88,7 @@ static struct {
 /* Memory for so many bytes, by itself. */
 static uint8_t *memory(size_t count)
 {
-    uint8_t *const bytes = malloc(count + 1);
+    uint8_t *const bytes = malloc(count ? count : 1);
 
     if (!bytes) {
         fail("malloc", "no memory");
@@ -98,17 +104,32 @@ static int is_secret(char kind, const char *name)
     return kind == 's';
 }
 
+/* Whether a bit of some bytes is undefined. */
+static int any_undefined(const uint8_t *bytes, size_t count)
+{
+    size_t i;
+
+    for (i = 0; i < count; i++) {
+        uint8_t undefined = 0;
+
+        VALGRIND_GET_VBITS(&bytes[i], &undefined, 1);
+        if (undefined != 0) {
+            return 1;
+        }
+    }
+    return 0;
+}
+
 static void watch(struct one one)
 {
     const char *name = calls[one.call].name;
     const char *numbers = calls[one.call].numbers, *slices = calls[one.call].slices;
-    const unsigned refusal = kk_refusal(one.answer);
-    const int reckons = refusal == KK_NOT_REFUSED || refusal == KK_REFUSED_DISAGREES;
-    const unsigned meant = reckons ? calls[one.call].decisions : 0;
+    const unsigned meant = taken_or_6(one.answer) ? calls[one.call].decisions : 0;
     uint8_t *given[SLICES_MAX] = { 0 };
     uint8_t *const out = memory(one.lent);
-    uint64_t answer, defined = 0;
+    uint64_t answer, undefined = 0;
     unsigned decisions;
+    int secrets = 0;
     size_t i;
 
     for (i = 0; i < one.lent; i++) {
@@ -118,11 +139,13 @@ static void watch(struct one one)
         given[i] = memcpy(memory(one.lengths[i]), one.slices[i], one.lengths[i]);
         one.slices[i] = given[i];
         if (is_secret(slices[i], name)) {
+            secrets = 1;
             VALGRIND_MAKE_MEM_UNDEFINED(given[i], one.lengths[i]);
         }
     }
     for (i = 0; numbers[i]; i++) {
         if (is_secret(numbers[i], name)) {
+            secrets = 1;
             VALGRIND_MAKE_MEM_UNDEFINED(&one.numbers[i], sizeof one.numbers[i]);
         }
     }
@@ -134,9 +157,15 @@ static void watch(struct one one)
     if (decisions != meant) {
         fail(name, "a secret decided %u times, and not %u", decisions, meant);
     }
-    VALGRIND_GET_VBITS(&answer, &defined, sizeof answer);
-    if (defined != 0) {
+    VALGRIND_GET_VBITS(&answer, &undefined, sizeof answer);
+    if (undefined != 0) {
         fail(name, "the returned number depends on a secret");
+    }
+    if (any_undefined(out, written_by(answer)) != (secrets && written_by(answer) > 0)) {
+        fail(name, "what was written depends on no secret, or on one that is none");
+    }
+    if (any_undefined(out + written_by(answer), one.lent - written_by(answer))) {
+        fail(name, "a byte that had to stay depends on a secret");
     }
     VALGRIND_MAKE_MEM_DEFINED(out, one.lent);
     if (answer != one.answer) {

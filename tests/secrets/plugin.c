@@ -1,17 +1,17 @@
 /*
- * A plugin for qemu: compares what a program does between two marks with what it did there
+ * A plugin for qemu 7.2: compares what a program does between two posts with what it did there
  * before, instruction by instruction and address by address.
  *
- *   -plugin FILE,first=ADDRESS,again=ADDRESS,end=ADDRESS
+ *   -plugin FILE,first=PLACE,again=PLACE,end=PLACE
  *
- * The marks are functions of at most 16 bytes at such a multiple (tests/secrets/traced.c).
- * After `first` each instruction and each address that it reads or writes is kept, until
- * `end`; after `again` each is compared with what was kept. Prints where it first differs, by
- * the name of the function, and how many runs were kept and compared. An Arm instruction that
- * a condition holds back counts as one that is executed, but not the address that it leaves
- * alone.
+ * The posts are functions that the program calls for this (tests/secrets/traced.c); a place is
+ * ADDRESS+SIZE, the first in hexadecimal. After `first` each instruction and each address that
+ * it reads or writes is kept, until `end`; after `again` each is compared with what was kept.
+ * Prints where it first differs, by the name of the function, and how many runs were kept and
+ * compared. An Arm instruction that a condition holds back counts as one that is executed, but
+ * not the address that it leaves alone.
  *
- * Debian has no header for plugins; what is used of it is declared here.
+ * Debian has no header for plugins. What is used of it is declared here.
  */
 
 #include <inttypes.h>
@@ -45,10 +45,12 @@ struct instruction {
     const char *symbol;
 };
 
-/* The marks. */
-enum { FIRST, AGAIN, END, MARKS };
-static const char *const mark_names[MARKS] = { "first=", "again=", "end=" };
-static uint64_t marks[MARKS];
+/* The posts. */
+enum { FIRST, AGAIN, END, POSTS };
+static const char *const post_names[POSTS] = { "first=", "again=", "end=" };
+static struct {
+    uint64_t at, size;
+} posts[POSTS];
 
 /* What was kept: instructions and addresses in their order. */
 static uint64_t *kept;
@@ -84,21 +86,25 @@ static void note(const struct instruction *at, uint64_t value, const char *what)
     }
 }
 
+static int within(const struct instruction *at, int post)
+{
+    return at->at - posts[post].at < posts[post].size;
+}
+
 static void executed(unsigned processor, void *data)
 {
     const struct instruction *const at = data;
-    const uint64_t function = at->at & ~(uint64_t)15;
 
     (void)processor;
-    if (function == marks[FIRST]) {
+    if (within(at, FIRST)) {
         runs_kept += doing != KEEPING;
         doing = KEEPING;
         count = 0;
-    } else if (function == marks[AGAIN]) {
+    } else if (within(at, AGAIN)) {
         runs_compared += doing != COMPARING;
         doing = COMPARING;
         next = 0;
-    } else if (function == marks[END]) {
+    } else if (within(at, END)) {
         if (doing == COMPARING && next != count) {
             differs(at, "it ends");
         }
@@ -145,20 +151,23 @@ static void ended(uint64_t id, void *data)
 
 int qemu_plugin_install(uint64_t id, const void *about, int words_count, char **words)
 {
-    int i, mark;
+    int i, post;
 
     (void)about;
     for (i = 0; i < words_count; i++) {
-        for (mark = 0; mark < MARKS; mark++) {
-            const size_t length = strlen(mark_names[mark]);
+        for (post = 0; post < POSTS; post++) {
+            const size_t length = strlen(post_names[post]);
+            char *size;
 
-            if (strncmp(words[i], mark_names[mark], length) == 0) {
-                marks[mark] = strtoull(words[i] + length, NULL, 16) & ~(uint64_t)15;
+            if (strncmp(words[i], post_names[post], length) == 0) {
+                /* The lowest bit of an Arm function's address says that its code is Thumb. */
+                posts[post].at = strtoull(words[i] + length, &size, 16) & ~(uint64_t)1;
+                posts[post].size = strtoull(size, NULL, 10);
             }
         }
     }
-    if (!marks[FIRST] || !marks[AGAIN] || !marks[END]) {
-        fprintf(stderr, "traced: a mark is missing\n");
+    if (!posts[FIRST].size || !posts[AGAIN].size || !posts[END].size) {
+        fprintf(stderr, "traced: a post is missing\n");
         return 1;
     }
     qemu_plugin_register_vcpu_tb_trans_cb(id, translated);

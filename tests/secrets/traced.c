@@ -4,10 +4,11 @@
  * instruction, and every address that is read or written. tests/board/calls.h says what is
  * secret. A frame that opens is sealed anew from other secrets, so that it opens again.
  *
- * A line that opens has one key and one message, and is public text: it is not made again. That
- * it opens as its frame does, kk_open shows.
+ * A line that opens has one key and one message, and is public text: it is not opened again.
+ * Its frame is opened by the function that kk_open calls too.
  *
- * First it tries the comparison on two functions of its own that a secret does decide in.
+ * First it tries the comparison on two functions of its own that a secret does decide in, and on
+ * kk_engine with one round more.
  *
  * A file of cases lies in flash, CASES being its name.
  */
@@ -25,28 +26,30 @@ static const uint8_t cases[] = {
 /* How often a call is made again. */
 #define AGAIN 2
 
-/* The marks, for the emulator to see. */
-#define MARK __attribute__((noinline, aligned(16), used)) void
-MARK mark_first(void);
-MARK mark_again(void);
-MARK mark_end(void);
+/* The posts, for the emulator to see. */
+#define POST __attribute__((noinline, aligned(4), used)) void
+POST post_first(void);
+POST post_again(void);
+POST post_end(void);
 
-MARK mark_first(void)
+POST post_first(void)
 {
-    __asm__ volatile("");
+    __asm__ volatile("# first");
 }
 
-MARK mark_again(void)
+POST post_again(void)
 {
-    __asm__ volatile("");
+    __asm__ volatile("# again");
 }
 
-MARK mark_end(void)
+POST post_end(void)
 {
-    __asm__ volatile("");
+    __asm__ volatile("# end");
 }
 
-static unsigned number_of_case, again;
+/* The number of the case, how often a call was made again, and how often of these it was taken
+   or refused 6. */
+static unsigned number_of_case, again, again_taken;
 
 static void fail(const char *what)
 {
@@ -87,11 +90,11 @@ static __attribute__((noinline)) void leaky_index(uint64_t word)
     seen = table[word & 255];
 }
 
-static __attribute__((noinline)) void run_leaky(void (*mark)(void), void (*leaky)(uint64_t), uint64_t word)
+static __attribute__((noinline)) void run_leaky(void (*post)(void), void (*leaky)(uint64_t), uint64_t word)
 {
-    mark();
+    post();
     leaky(word);
-    mark_end();
+    post_end();
 }
 
 /* ---- the library's calls */
@@ -102,13 +105,13 @@ static uint8_t out[KK_LINE_MAX + 64];
 #define SEALED_MAX KK_SEALED_BYTES(KK_MESSAGE_MAX)
 static uint8_t bytes[SEALED_MAX];
 
-static __attribute__((noinline)) void run(void (*mark)(void), const struct one *one)
+static __attribute__((noinline)) void run(void (*post)(void), const struct one *one)
 {
     uint64_t answer;
 
-    mark();
+    post();
     answer = made(one, out);
-    mark_end();
+    post_end();
     if (answer != one->answer) {
         fail("another answer");
     }
@@ -152,6 +155,21 @@ static void change(struct one *one, int place)
     }
 }
 
+/* Whether there is a secret, and a call with another one gives the same answer. */
+static int can_change(const struct one *one)
+{
+    const char *const numbers = calls[one->call].numbers;
+    const int opened = calls[one->call].decisions && kk_refusal(one->answer) == KK_NOT_REFUSED;
+    size_t i;
+
+    for (i = 0; numbers[i]; i++) {
+        if (numbers[i] == 's') {
+            return !opened || one->call == CALL_kk_open;
+        }
+    }
+    return 0;
+}
+
 static void trace(struct one *one)
 {
     const int place = placed(one);
@@ -164,14 +182,23 @@ static void trace(struct one *one)
         memcpy(bytes, one->slices[place], (size_t)one->lengths[place]);
         one->slices[place] = bytes;
     }
-    run(mark_first, one);
-    if (one->call == CALL_kk_open_line && kk_refusal(one->answer) == KK_NOT_REFUSED) {
-        return;
-    }
-    for (i = 0; i < AGAIN; i++, again++) {
+    run(post_first, one);
+    for (i = 0; i < AGAIN && can_change(one); i++) {
         change(one, place);
-        run(mark_again, one);
+        run(post_again, one);
+        again++;
+        again_taken += taken_or_6(one->answer);
     }
+}
+
+/* With one round more, a call does something else. */
+static void try_rounds(void)
+{
+    struct one one = { .call = CALL_kk_engine, .numbers = { 1, 3 }, .lent = KK_BLOCK_BYTES, .answer = KK_BLOCK_BYTES };
+
+    run(post_first, &one);
+    one.numbers[1]++;
+    run(post_again, &one);
 }
 
 int main(void)
@@ -179,12 +206,13 @@ int main(void)
     const uint8_t *at = cases;
     struct one one = { 0 };
 
-    run_leaky(mark_first, leaky_branch, 0);
-    run_leaky(mark_again, leaky_branch, 2);
-    run_leaky(mark_again, leaky_branch, 1);
-    run_leaky(mark_first, leaky_index, 0);
-    run_leaky(mark_again, leaky_index, 256);
-    run_leaky(mark_again, leaky_index, 1);
+    run_leaky(post_first, leaky_branch, 0);
+    run_leaky(post_again, leaky_branch, 2);
+    run_leaky(post_again, leaky_branch, 1);
+    run_leaky(post_first, leaky_index, 0);
+    run_leaky(post_again, leaky_index, 256);
+    run_leaky(post_again, leaky_index, 1);
+    try_rounds();
     for (; *at != 0xFF; number_of_case++) {
         at = read_case(at, &one);
         if (!at) {
@@ -195,6 +223,6 @@ int main(void)
     if (at != cases + sizeof cases - 1) {
         fail("not the last one");
     }
-    printf("traced: %u calls, made again %u times\n", number_of_case, again);
+    printf("traced: %u calls, %u again, %u of them taken or refused 6\n", number_of_case, again, again_taken);
     return 0;
 }

@@ -76,14 +76,14 @@ fn wide(x: u8) -> u64
 }
 
 // The same as a number of 32 bits.
-fn half_wide(x: u8) -> u32
+fn wide_32(x: u8) -> u32
     ensures { λ r. ⌜ r ≡ x ⌝ }
 {
     x as u32
 }
 
-// Whether a box is looked up in halves. Its contract leaves the answer open, so that a cell is looked up right either way. A processor
-// of 32 bits shifts a word by a cell with a branch or a call: there `tools/archive` has it answer yes.
+// Whether a box is looked up in halves. No contract says, so `look_up` is proved for both answers; `tools/archive` has it answer yes for
+// processors that shift 32 bits at a time.
 fn in_halves() -> bool {
     false
 }
@@ -93,10 +93,10 @@ fn look_up_in_halves(table: u64, x: u8) -> u8
     requires { ⌜ x < 16 ⌝ }
     ensures { λ r. ⌜ r ≡ nibbles table ! x ⌝ }
 {
-    let s = 4 * half_wide(x % 8);
+    let s = 4 * wide_32(x % 8);
     let low = ((table % 0x100000000) as u32 >> s) % 16;
     let high = ((table / 0x100000000 % 0x100000000) as u32 >> s) % 16;
-    (low ^ (low ^ high) & 15 * half_wide(x / 8)) as u8
+    (low ^ (low ^ high) & 15 * wide_32(x / 8)) as u8
 }
 
 // The output of a box for one cell.

@@ -11,14 +11,14 @@ use Rattle.cells.proofs.look_up_in_halves.Tie as tie
 
 -- a digit is a cell
 fits : tie.Need-cast-result
-fits c = rw (c .before .half-wide .ensures, c .half-wide2 .ensures) (omega (arith, digit-below (c .before .before .args .table) (c .before .before .args .x) (c .before .before .pre)))
+fits c = rw (c .before .wide-32 .ensures, c .wide-322 .ensures) (omega (arith, digit-below (c .before .before .args .table) (c .before .before .args .x) (c .before .before .pre)))
 
 -- the digit chosen
 looked-up : tie.Need-returns
 unfolding nibbles
 looked-up c =
     let entry = c .before .before in
-    rw (c .before .half-wide .ensures, c .half-wide2 .ensures)
+    rw (c .before .wide-32 .ensures, c .wide-322 .ensures)
     (digit-chosen (entry .args .table) (entry .args .x) (entry .pre) ∙ sym (upto-at 16 (λ v. entry .args .table / 2 ^ (4 * v) % 16) (entry .args .x) (entry .pre)))
 
 pub look-up-in-halves-spec : {M : Type 1} → statement M
