@@ -218,7 +218,7 @@ fn put_message(n: usize, plain: &[u64], out: &mut [u8])
     words::write(&mut out[at..n], 8, w);
 }
 
-// The bits in which the last of the blocks of a message of n bytes differs from one that is filled as it must be: none where it is right, or whole.
+// The bits in which the fill of the last of the blocks of a message of n bytes is wrong: none where it is right, or where there is no fill.
 fn fill_difference(n: usize, plain: &[u64]) -> u64
     requires { ⌜ blocks n ≤ length (now plain) ⌝ }
     ensures { λ r. ⌜ eqb r 0 ≡ fillRight n (getD (now (plain .entry)) (n / 8) 0) ⌝ }
