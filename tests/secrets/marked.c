@@ -12,6 +12,7 @@
  */
 
 #include "calls.h"
+#include "leaky.h"
 
 #include <stdarg.h>
 #include <stdio.h>
@@ -38,32 +39,8 @@ static uint8_t filled(size_t place)
     return (uint8_t)(0xA5 ^ place * 29);
 }
 
-/* ---- two functions that a secret decides in */
-
-#ifdef __clang__
-#define LEAKY __attribute__((noinline)) uint64_t
-#else
-#define LEAKY __attribute__((noinline, noclone)) uint64_t
-#endif
-
-static volatile uint64_t seen;
-static volatile uint8_t table[256];
-
-static LEAKY leaky_branch(uint64_t word)
-{
-    if (word % 3 == 1) {
-        seen++;
-    }
-    return 0;
-}
-
-static LEAKY leaky_index(uint64_t word)
-{
-    seen = table[word % 256];
-    return 0;
-}
-
-static void find(const char *name, uint64_t (*leaky)(uint64_t))
+/* valgrind reports a function that a secret decides in, and says nothing of it without a secret. */
+static void find(const char *name, void (*leaky)(uint64_t))
 {
     uint64_t word = 0x0123456789ABCDEF;
     unsigned before = VALGRIND_COUNT_ERRORS;

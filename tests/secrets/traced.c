@@ -14,6 +14,7 @@
  */
 
 #include "calls.h"
+#include "leaky.h"
 
 #include <stdio.h>
 #include <stdlib.h>
@@ -72,22 +73,6 @@ static void fill(uint8_t *bytes, kk_size count)
     for (; count > 0; count--) {
         *bytes++ = (uint8_t)(some() >> 32);
     }
-}
-
-/* ---- two functions that a secret decides in */
-
-static volatile uint8_t seen, table[256];
-
-static __attribute__((noinline)) void leaky_branch(uint64_t word)
-{
-    if (word & 1) {
-        seen = 1;
-    }
-}
-
-static __attribute__((noinline)) void leaky_index(uint64_t word)
-{
-    seen = table[word & 255];
 }
 
 static __attribute__((noinline)) void run_leaky(void (*post)(void), void (*leaky)(uint64_t), uint64_t word)

@@ -1,5 +1,5 @@
--- A digit of 4 bits of a word, from the half of 32 bits that it stands in.
-use mathlib.Core.Path.{_≡_, sym, ap, ap₂, _∙_}
+-- A digit of 4 bits of a word: what a box as a word has there, and how it comes from the half of 32 bits that it stands in.
+use mathlib.Core.Path.{_≡_, sym, ap, _∙_}
 use Prim.Native.Nat.{ℕ, _+_, _-_, _*_, _/_, _%_, _^_, _<_, _≤_}
 use native.Mathlib.Nat.{mod-eq-of-lt, mod-lt}
 use native.Mathlib.Omega.{arith}
@@ -7,8 +7,15 @@ use lib.Bits.{bitAnd, and-zero-r, and-mask, xor-zero-l, xor-zero-r, xor-self, xo
 use lib.Dec.{lit<}
 use lib.Pow.{field, mod-mod-pow, shr-shr}
 use Rattle.words.specs.Digits.{_⊕_}
+use Rattle.words.specs.Lists.{_!_}
 use Rattle.words.proofs.Cases.{by-lt}
+use Rattle.cells.specs.Workings.{nibbles}
+use Rattle.cells.proofs.Upto.{upto-at}
 use Rattle.cells.proofs.Xor.{assoc}
+
+pub digit-at : (w x : ℕ) → x < 16 → w / 2 ^ (4 * x) % 16 ≡ nibbles w ! x
+unfolding nibbles
+digit-at w x h = sym (upto-at 16 (λ v. w / 2 ^ (4 * v) % 16) x h)
 
 -- the low half has the low digits
 low-digit : (w k : ℕ) → k ≤ 28 → w % 2 ^ 32 / 2 ^ k % 16 ≡ w / 2 ^ k % 16
@@ -16,6 +23,7 @@ low-digit w k h =
     let e : 28 - k + 4 + k ≡ 32 = omega arith in
     ap (λ (n : ℕ). w % 2 ^ n / 2 ^ k % 16) (sym e) ∙ ap (λ (n : ℕ). n % 16) (field w (28 - k + 4) k) ∙ mod-mod-pow (w / 2 ^ k) (28 - k) 4
 
+-- a mask of 0 leaves the first of two digits, a mask of 15 gives the second
 first-chosen : (l h : ℕ) → l ⊕ bitAnd (l ⊕ h) 0 ≡ l
 first-chosen l h = ap (λ (n : ℕ). l ⊕ n) (and-zero-r (l ⊕ h)) ∙ xor-zero-r l
 

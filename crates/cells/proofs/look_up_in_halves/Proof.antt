@@ -1,11 +1,8 @@
 -- `look_up_in_halves` meets its contract: the digit that is chosen from the two halves is the one that the table has there.
 use borrow.Author.Needs.{needs}
-use mathlib.Core.Path.{sym, _∙_}
-use Prim.Native.Nat.{_*_, _/_, _%_, _^_}
+use mathlib.Core.Path.{_∙_}
 use native.Mathlib.Omega.{arith}
-use Rattle.cells.specs.Workings.{nibbles}
-use Rattle.cells.proofs.Halves.{digit-chosen, digit-below}
-use Rattle.cells.proofs.Upto.{upto-at}
+use Rattle.cells.proofs.Halves.{digit-at, digit-chosen, digit-below}
 use Rattle.cells.proofs.look_up_in_halves.Statement.{statement}
 use Rattle.cells.proofs.look_up_in_halves.Tie as tie
 
@@ -15,11 +12,9 @@ fits c = rw (c .before .wide-32 .ensures, c .wide-322 .ensures) (omega (arith, d
 
 -- the digit chosen
 looked-up : tie.Need-returns
-unfolding nibbles
 looked-up c =
     let entry = c .before .before in
-    rw (c .before .wide-32 .ensures, c .wide-322 .ensures)
-    (digit-chosen (entry .args .table) (entry .args .x) (entry .pre) ∙ sym (upto-at 16 (λ v. entry .args .table / 2 ^ (4 * v) % 16) (entry .args .x) (entry .pre)))
+    rw (c .before .wide-32 .ensures, c .wide-322 .ensures) (digit-chosen (entry .args .table) (entry .args .x) (entry .pre) ∙ digit-at (entry .args .table) (entry .args .x) (entry .pre))
 
 pub look-up-in-halves-spec : {M : Type 1} → statement M
 look-up-in-halves-spec =
