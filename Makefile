@@ -7,7 +7,7 @@ EMULATOR :=
 WATCHED := build/abuse
 MARKED := build/marked
 TIMED := build/bench
-CHECKER := tools/run checker
+CHECKER := target/bin/checker
 SECOND := build/second
 export BINUTILS :=
 else

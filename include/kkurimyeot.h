@@ -280,7 +280,12 @@ enum kk_refusals {
                                    length rounded up to 8 */
     KK_REFUSED_ROOM = 5,        /* lent memory shorter than the answer needs */
     KK_REFUSED_DISAGREES = 6,   /* tag or fill disagrees */
-    KK_REFUSED_LINE = 7         /* not a good line; kk_count() gives the place */
+    KK_REFUSED_LINE = 7,        /* not a good line; kk_count() gives the place */
+
+    /* No call here gives these two. The file checker does: it remembers the serials
+       of the lines that opened in a file. */
+    KK_REFUSED_REPEATED_SERIAL = 8, /* a line before has opened under the serial */
+    KK_REFUSED_SERIAL_LIST_FULL = 9 /* a fresh serial after 4,096 others */
 };
 
 /* The refusal in a returned number: one of enum kk_refusals. */

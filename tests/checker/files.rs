@@ -21,7 +21,8 @@ pub fn line(key: Key, serial: u64, label: &[u8], message: &[u8]) -> Vec<u8> {
 pub struct Lines {
     pub rng: Rng,
     pub key: Key,
-    serial: u64,
+    /// That of the last line.
+    pub serial: u64,
 }
 
 impl Lines {
@@ -168,7 +169,8 @@ fn not_an_end(byte: u8) -> u8 {
     }
 }
 
-/// The sample file: cards of eight lanes, as they come back from a volunteer's editor.
+/// The sample file: cards of eight lanes, as they come back from a volunteer's editor, and behind them
+/// a card of last season, whose serial is used again.
 pub fn cards() -> Vec<u8> {
     let key = vectors::KEY;
     let card =
@@ -208,6 +210,7 @@ pub fn cards() -> Vec<u8> {
         b"\n".to_vec(),
         card(1_008, name, ""),
         card(1_009, "", "push 10 hold 40, any lane"),
+        card(1_001, "lane 1", "push 12 hold 45"),
     ]
     .concat()
 }

@@ -1,12 +1,13 @@
 //! Tries a checker on whole files, and makes files for it.
 //!
 //!     checker try COMMAND [WORD..]  runs a checker, compares its listings with the second program's
-//!     checker lines COUNT           prints a file of so many lines, good and damaged
+//!     checker lines KIND COUNT      prints a file of lines, by the kinds that `print_lines` has
 //!     checker cards                 prints the sample file
 
 mod abuse;
 mod feed;
 mod files;
+mod serials;
 
 use feed::{Checker, Feed, Output, Ran};
 use files::{key_line, Lines};
@@ -14,12 +15,16 @@ use second::line::{DIGITS, END, LONGEST};
 use second::listing::{self, KEY_REFUSED};
 use second::qarma::{vectors, Key};
 use std::env;
-use std::io::{self, BufWriter, Write};
+use std::io::{self, Write};
 use std::os::unix::process::ExitStatusExt;
 use std::process::ExitCode;
 
-/// The lines of the great file.
-const MANY: usize = 50_000;
+/// The files of many lines, and the lines of each: the serials of all that open are remembered.
+const FILES: usize = 10;
+const MANY: usize = 5_000;
+
+/// The lines of the long file, in which more open than are remembered.
+const LONG: usize = 20_000;
 
 /// How many differences are printed.
 const PRINTED: u64 = 10;
@@ -248,10 +253,10 @@ fn good_keys(tries: &mut Tries) -> io::Result<()> {
         (0x0123456789ABCDEF, 0xFEDCBA9876543210),
     ] {
         let key = Key { w0, k0 };
-        let right = files::line(key, 7, b"label", b"a message");
+        let right = |serial| files::line(key, serial, b"label", b"a message");
         let other = Key { w0: k0, k0: !w0 };
-        let wrong = files::line(other, 7, b"label", b"a message");
-        tries.lines("a key", key, &[&right, &wrong, &right])?;
+        let wrong = files::line(other, 8, b"label", b"a message");
+        tries.lines("a key", key, &[&right(7), &wrong, &right(8)])?;
     }
     Ok(())
 }
@@ -271,7 +276,6 @@ fn short_files(tries: &mut Tries) -> io::Result<()> {
         tries.lines("empty lines", key, &[&empty.repeat(count)])?;
     }
     tries.lines("one line", key, &[&first])?;
-    tries.lines("a line twice", key, &[&first, &first])?;
     tries.lines("an empty line between", key, &[&first, empty, &second])?;
     tries.lines(
         "a key line between",
@@ -351,7 +355,7 @@ fn lengths(tries: &mut Tries) -> io::Result<()> {
 fn long_lines(tries: &mut Tries) -> io::Result<()> {
     let mut lines = Lines::new(5);
     let key = lines.key;
-    let (good, longest) = (lines.good(), lines.sized(32, 1_024));
+    let (good, longest, last) = (lines.good(), lines.sized(32, 1_024), lines.good());
     let unended = &longest[..LONGEST - 1];
 
     let sizes = (LONGEST - 2..=LONGEST + 3)
@@ -362,7 +366,7 @@ fn long_lines(tries: &mut Tries) -> io::Result<()> {
             let mut long = unended[..size.min(LONGEST - 1)].to_vec();
             long.resize(size, byte);
             let name = "a line of about the longest length, or more";
-            tries.lines(name, key, &[&good, &long, b"\n", &longest, &good, &long])?;
+            tries.lines(name, key, &[&good, &long, b"\n", &longest, &last, &long])?;
         }
     }
     for byte in [b'0', b'f', b' ', 0, 0xFF] {
@@ -377,37 +381,47 @@ fn long_lines(tries: &mut Tries) -> io::Result<()> {
         }
     }
     let long = vec![b'0'; 1_000_000];
-    let input = [&key_line(key), &good[..], &long, b"\n", &good, &long].concat();
+    let input = [&key_line(key), &good[..], &long, b"\n", &last, &long].concat();
     let meant = listing::listing(&input);
     tries.fed("a million bytes", &input, Feed::OneByOne(4_096), &meant)
+}
+
+/// A file by each of these feeds. Its total is printed.
+fn by_feeds(tries: &mut Tries, name: &str, file: &[u8], feeds: &[Feed]) -> io::Result<()> {
+    let meant = listing::listing(file);
+    let total = meant.split_inclusive(|&byte| byte == END).next_back();
+    let total = String::from_utf8_lossy(total.unwrap_or_default());
+    print!("{name}: {} bytes, {total}", file.len());
+    for &feed in feeds {
+        tries.fed(name, file, feed, &meant)?;
+    }
+    Ok(())
 }
 
 /// Many lines, by every feed; the same with ends lost and ends more; and under another key. One by
 /// one, a piece costs two turns of the machine: small pieces come so from a shorter file.
 fn many_lines(tries: &mut Tries) -> io::Result<()> {
     let mut lines = Lines::new(6);
-    let file = lines.file(MANY);
-    let meant = listing::listing(&file);
-    let total = meant.split_inclusive(|&byte| byte == END).next_back();
-    let total = String::from_utf8_lossy(total.unwrap_or_default());
-    print!("many lines: {} bytes, {total}", file.len());
-    for feed in [
+    let feeds = [
         Feed::File,
         Feed::Pipe(1),
         Feed::Pipe(7),
         Feed::Pipe(4_096),
         Feed::OneByOne(4_096),
         Feed::OneByOne(65_536),
-    ] {
-        tries.fed("many lines", &file, feed, &meant)?;
+    ];
+    for _ in 0..FILES {
+        by_feeds(tries, "many lines", &lines.file(MANY), &feeds)?;
     }
+    let feeds = [Feed::File, Feed::Pipe(4_096)];
+    by_feeds(tries, "a long file", &lines.file(LONG), &feeds)?;
 
-    let shorter = lines.file(MANY / 50);
+    let shorter = lines.file(MANY / 5);
     let meant = listing::listing(&shorter);
     for pieces in [7, 32, 33, 34, 100] {
         tries.fed("fewer lines", &shorter, Feed::OneByOne(pieces), &meant)?;
     }
-    let few = lines.file(MANY / 200);
+    let few = lines.file(MANY / 20);
     tries.fed(
         "few lines",
         &few,
@@ -446,19 +460,29 @@ fn try_checker(checker: Checker) -> io::Result<ExitCode> {
     lengths(&mut tries)?;
     long_lines(&mut tries)?;
     many_lines(&mut tries)?;
+    serials::serials(&mut tries)?;
     abuse::abuse(&mut tries)?;
     Ok(tries.finish())
 }
 
-/// Prints a file of so many lines.
-fn print_lines(count: usize) -> io::Result<()> {
-    let mut out = BufWriter::new(io::stdout().lock());
+/// Prints a file of so many lines. They are good, but for `mixed`, and their serials rise from line to
+/// line, but for `falling` and `shuffled`. For `twice`, all come once more.
+fn print_lines(kind: &str, count: usize) -> io::Result<()> {
     let mut lines = Lines::new(8);
-    out.write_all(&lines.key_line())?;
-    for _ in 0..count {
-        out.write_all(&lines.mixed())?;
+    let mut made: Vec<_> = (0..count)
+        .map(|_| match kind {
+            "mixed" => lines.mixed(),
+            _ => lines.good(),
+        })
+        .collect();
+    match kind {
+        "mixed" | "different" => {}
+        "twice" => made.extend_from_within(..),
+        "falling" => made.reverse(),
+        "shuffled" => lines.rng.shuffle(&mut made),
+        _ => panic!("mixed, different, twice, falling or shuffled"),
     }
-    out.flush()
+    io::stdout().write_all(&[lines.key_line(), made.concat()].concat())
 }
 
 fn main() -> io::Result<ExitCode> {
@@ -466,9 +490,12 @@ fn main() -> io::Result<ExitCode> {
     let mode = words.next().unwrap_or_default();
     match (mode.as_str(), words.next()) {
         ("try", Some(command)) => return try_checker(Checker::new(command, words.collect())),
-        ("lines", Some(count)) => print_lines(count.parse().expect("a number"))?,
+        ("lines", Some(kind)) => {
+            let count = words.next().unwrap_or_default();
+            print_lines(&kind, count.parse().expect("a number"))?;
+        }
         ("cards", None) => io::stdout().write_all(&files::cards())?,
-        _ => panic!("try COMMAND [WORD..], lines COUNT, or cards"),
+        _ => panic!("try COMMAND [WORD..], lines KIND COUNT, or cards"),
     }
     Ok(ExitCode::SUCCESS)
 }

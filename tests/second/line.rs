@@ -197,17 +197,20 @@ fn bytes(digits: &[u8]) -> Vec<u8> {
 /// Writes the message of the line's frame and answers its length.
 pub fn open(key: Key, line: &[u8], out: &mut [u8]) -> Result<usize, Refusal> {
     let fields = read(line)?;
+    Ok(open_frame(key, line, fields, out)?)
+}
+
+/// The same for a good line, of which these fields were read.
+pub fn open_frame(
+    key: Key,
+    line: &[u8],
+    fields: Fields,
+    out: &mut [u8],
+) -> Result<usize, frame::Refusal> {
     let label = bytes(&line[fields.label_place..fields.sealed_place]);
     let sealed = bytes(&line[fields.sealed_place..line.len() - 1]);
     let length = fields.message_length as u64;
-    Ok(frame::open(
-        key,
-        fields.serial,
-        length,
-        &label,
-        &sealed,
-        out,
-    )?)
+    frame::open(key, fields.serial, length, &label, &sealed, out)
 }
 
 #[cfg(test)]

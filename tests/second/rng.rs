@@ -27,6 +27,13 @@ impl Rng {
         these[self.below(these.len())]
     }
 
+    /// Puts these in a random order.
+    pub fn shuffle<T>(&mut self, these: &mut [T]) {
+        for last in (1..these.len()).rev() {
+            these.swap(last, self.below(last + 1));
+        }
+    }
+
     /// The next so many random bytes.
     pub fn bytes(&mut self, count: usize) -> Vec<u8> {
         (0..count).map(|_| self.word() as u8).collect()

@@ -3,7 +3,7 @@ ghost use Prim.Native.Nat.{_+_, _^_, _<_, _≤_};
 ghost use mathlib.Core.Path.{_≡_};
 ghost use mathlib.Core.Bool.{true, false};
 ghost use lib.ListN.{length};
-ghost use Rattle.listing.specs.Chunks.{Kept};
+ghost use Rattle.listing.specs.Chunks.{Kept, Remembers};
 use libc::STDERR_FILENO;
 use libc::STDIN_FILENO;
 use libc::STDOUT_FILENO;
@@ -63,7 +63,7 @@ fn room(out: &[u8], used: usize) -> Waiting
 // The state as it was, and no going on.
 fn stop(t: Lister) -> Progress
     requires { ⌜ Kept t ⌝ }
-    ensures { λ r. ⌜ (Kept (r .state) × (r .state .lines ≡ t .lines)) × (r .used ≡ 0) × (r .taken ≡ 0) × (r .going ≡ false) ⌝ }
+    ensures { λ r. ⌜ (Kept (r .state) × (r .state .lines ≡ t .lines) × (r .state .opened ≡ t .opened)) × (r .used ≡ 0) × (r .taken ≡ 0) × (r .going ≡ false) ⌝ }
 {
     Progress {
         state: t,
@@ -77,20 +77,21 @@ fn stop(t: Lister) -> Progress
 fn feed_line(
     t: Lister,
     line: &mut [u8],
+    serials: &mut [u64],
     chunk: &[u8],
     from: usize,
     out: &mut [u8],
     used: usize,
 ) -> Progress
-    requires { ⌜ (Kept t × (t .lines + 1 < 2 ^ 63)) × ((2150 ≤ length (now line)) × (from < length (now chunk))) × ((used ≤ length (now out)) × (128 ≤ length (now out))) ⌝ }
-    ensures { λ r. ⌜ (Kept (r .state) × (r .state .lines ≤ t .lines + 1)) × (r .used ≤ length (now (out .entry))) × (from + r .taken ≤ length (now (chunk .entry))) × (r .going ≡ true → 1 ≤ r .taken) ⌝ }
+    requires { ⌜ (Kept t × (t .lines + 1 < 2 ^ 63) × Remembers (t .opened) (now serials)) × ((2150 ≤ length (now line)) × (from < length (now chunk))) × ((used ≤ length (now out)) × (128 ≤ length (now out))) ⌝ }
+    ensures { λ r. ⌜ (Kept (r .state) × (r .state .lines ≤ t .lines + 1) × Remembers (r .state .opened) (now (serials .exit))) × (r .used ≤ length (now (out .entry))) × (from + r .taken ≤ length (now (chunk .entry))) × (r .going ≡ true → 1 ≤ r .taken) ⌝ }
 {
     let waiting = room(out, used);
     let at = waiting.at;
     if !waiting.going {
         return stop(t);
     }
-    let fed = listing::feed(t, line, &chunk[from..], &mut out[at..]);
+    let fed = listing::feed(t, line, serials, &chunk[from..], &mut out[at..]);
     let state = fed.state;
     Progress {
         state,
@@ -101,15 +102,22 @@ fn feed_line(
 }
 
 // Feeds the listing with a whole chunk.
-fn feed_all(t: Lister, line: &mut [u8], chunk: &[u8], out: &mut [u8], used: usize) -> Progress
-    requires { ⌜ (Kept t × (t .lines + 65536 < 2 ^ 63)) × ((2150 ≤ length (now line)) × (length (now chunk) ≤ 65536)) × ((used ≤ length (now out)) × (128 ≤ length (now out))) ⌝ }
-    ensures { λ r. ⌜ (Kept (r .state) × (r .state .lines ≤ t .lines + 65536)) × (r .used ≤ length (now (out .entry))) ⌝ }
+fn feed_all(
+    t: Lister,
+    line: &mut [u8],
+    serials: &mut [u64],
+    chunk: &[u8],
+    out: &mut [u8],
+    used: usize,
+) -> Progress
+    requires { ⌜ (Kept t × (t .lines + 65536 < 2 ^ 63) × Remembers (t .opened) (now serials)) × ((2150 ≤ length (now line)) × (length (now chunk) ≤ 65536)) × ((used ≤ length (now out)) × (128 ≤ length (now out))) ⌝ }
+    ensures { λ r. ⌜ (Kept (r .state) × (r .state .lines ≤ t .lines + 65536) × Remembers (r .state .opened) (now (serials .exit))) × (r .used ≤ length (now (out .entry))) ⌝ }
 {
     let mut state = t;
     let mut waiting = used;
     let mut from = 0;
     while from < chunk.len() {
-        let next = feed_line(state, line, chunk, from, out, waiting);
+        let next = feed_line(state, line, serials, chunk, from, out, waiting);
         if !next.going {
             return next;
         }
@@ -127,9 +135,9 @@ fn feed_all(t: Lister, line: &mut [u8], chunk: &[u8], out: &mut [u8], used: usiz
 }
 
 // Reads standard input to its end. A proved loop has to end, so the reads are counted, from 2^46 down: no run uses them up, and as many chunks have fewer than 2^63 lines.
-fn read_all(line: &mut [u8], buf: &mut [u8], out: &mut [u8]) -> Progress
-    requires { ⌜ ((2150 ≤ length (now line)) × (length (now buf) ≤ 65536)) × (128 ≤ length (now out)) ⌝ }
-    ensures { λ r. ⌜ (Kept (r .state) × (r .state .lines + 1 < 2 ^ 63)) × (r .used ≤ length (now (out .entry))) ⌝ }
+fn read_all(line: &mut [u8], serials: &mut [u64], buf: &mut [u8], out: &mut [u8]) -> Progress
+    requires { ⌜ ((2150 ≤ length (now line)) × (length (now serials) ≡ 4096)) × ((length (now buf) ≤ 65536) × (128 ≤ length (now out))) ⌝ }
+    ensures { λ r. ⌜ (Kept (r .state) × (r .state .lines + 1 < 2 ^ 63) × Remembers (r .state .opened) (now (serials .exit))) × (r .used ≤ length (now (out .entry))) ⌝ }
 {
     let mut state = Lister {
         key: Key::Unread,
@@ -154,7 +162,7 @@ fn read_all(line: &mut [u8], buf: &mut [u8], out: &mut [u8]) -> Progress
             };
         }
         let n = io::count(got, buf);
-        let next = feed_all(state, line, &buf[..n], out, waiting);
+        let next = feed_all(state, line, serials, &buf[..n], out, waiting);
         if !next.going {
             return next;
         }
@@ -168,13 +176,13 @@ fn read_all(line: &mut [u8], buf: &mut [u8], out: &mut [u8]) -> Progress
 }
 
 // Writes out what waits, the end of the last line and what closes the listing.
-fn close(t: Lister, line: &[u8], out: &mut [u8], used: usize)
-    requires { ⌜ (Kept t × (t .lines + 1 < 2 ^ 63)) × (2150 ≤ length (now line)) × ((used ≤ length (now out)) × (128 ≤ length (now out))) ⌝ }
+fn close(t: Lister, line: &[u8], serials: &mut [u64], out: &mut [u8], used: usize)
+    requires { ⌜ (Kept t × (t .lines + 1 < 2 ^ 63) × Remembers (t .opened) (now serials)) × (2150 ≤ length (now line)) × ((used ≤ length (now out)) × (128 ≤ length (now out))) ⌝ }
 {
     if !flush(out, used) {
         return;
     }
-    let last = listing::finish(t, line, out);
+    let last = listing::finish(t, line, serials, out);
     let state = last.state;
     if !flush(out, last.said) {
         return;
@@ -185,11 +193,12 @@ fn close(t: Lister, line: &[u8], out: &mut [u8], used: usize)
 
 fn main() {
     let mut line = [0u8; 2150];
+    let mut serials = [0u64; 4096];
     let mut buf = io::large_buffer();
     let mut out = io::large_buffer();
-    let next = read_all(&mut line, &mut buf, &mut out);
+    let next = read_all(&mut line, &mut serials, &mut buf, &mut out);
     if next.going {
         let state = next.state;
-        close(state, &line, &mut out, next.used);
+        close(state, &line, &mut serials, &mut out, next.used);
     }
 }

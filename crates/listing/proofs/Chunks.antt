@@ -10,8 +10,8 @@ use lib.ListN.{length, take, drop, length-take}
 use lib.Seq.{append-snoc, take-all, take-append-le, take-take, take-at, take-length, length-take-le}
 use Rattle.words.proofs.Cases.{by-lt, by-eq}
 use Rattle.refusals.specs.declared.Answer.{Answer}
-use Rattle.listing.specs.Listing.{report, one, listing}
-use Rattle.listing.specs.Chunks.{pushing, pushed, gathering, Appended, keyText, Ends, endedAs, ending, holding, fedBy, Feeds, finishing, closing, totalAs}
+use Rattle.listing.specs.Listing.{serialsMax, listing}
+use Rattle.listing.specs.Chunks.{pushing, pushed, gathering, Appended, keyText, answering, Ends, endedKnown, endedAs, ending, holding, fedBy, Feeds, finishing, closing, totalAs}
 use Rattle.listing.specs.declared.Key.{Key}
 use Rattle.listing.specs.declared.Key.the-variants.{Unread, Known, Bad}
 use Rattle.listing.specs.declared.Lister.{Lister}
@@ -19,9 +19,9 @@ use Rattle.listing.specs.declared.Gathered.{Gathered}
 use Rattle.listing.specs.declared.Ended.{Ended}
 use Rattle.listing.specs.declared.Fed.{Fed}
 use Rattle.listing.proofs.Gathering.{push-few, push-length, push-bytes, on-end, on-more}
-use Rattle.listing.proofs.Long.{long-answer, long-key}
+use Rattle.listing.proofs.Long.{long-answer, long-serial, long-key}
 use Rattle.listing.proofs.Lines.{start}
-use Rattle.listing.proofs.Bytes.{Sofar, began, ended, longer, step-ended, step-longer, fed, fed-append, allAs, reckons}
+use Rattle.listing.proofs.Bytes.{Sofar, began, brings, ended, longer, step-ended, step-longer, fed, fed-append, allAs, reckons}
 
 -- ---- the bytes that are held
 
@@ -79,24 +79,26 @@ gathers (b ∷ s) st line held n h =
 abbrev pub settled : Lister → Lister
 settled t = holding t 0
 
-ending-as : (t : Lister) (l : List ℕ) (k : Key) → endedAs t (take 2150 l) k ≡ endedAs (settled t) l k
-ending-as t l Unread = ap (λ (k : Key). (record { key = k; lines = t .lines; opened = t .opened; held = 0 }, keyText k)) (long-key l)
-ending-as t l (Known w0 k0) =
-    ap (λ (a : Answer). (record { key = Known w0 k0; lines = t .lines + 1; opened = t .opened + one a; held = 0 }, report (t .lines + 1) a)) (long-answer w0 k0 l)
-ending-as t l Bad = refl
+ending-as : (t : Lister) (m l : List ℕ) (k : Key) → endedAs t m (take 2150 l) k ≡ endedAs (settled t) m l k
+ending-as t m l Unread = ap (λ (k : Key). (record { key = k; lines = t .lines; opened = t .opened; held = 0 }, m, keyText k)) (long-key l)
+ending-as t m l (Known w0 k0) = ap₂ (λ (x : ℕ) (a : Answer). endedKnown t w0 k0 (answering (t .opened) x m a)) (long-serial l) (long-answer w0 k0 l)
+ending-as t m l Bad = refl
 
-ending-same : (t s : Lister) (x l : List ℕ) → settled t ≡ s → x ≡ take 2150 l → ending t x ≡ ending s l
+ending-same : (t s : Lister) (m n x l : List ℕ) → settled t ≡ s → m ≡ n → x ≡ take 2150 l → ending t m x ≡ ending s n l
 unfolding ending
-ending-same t s x l e q = ap (λ (y : List ℕ). endedAs t y (t .key)) q ∙ ending-as t l (t .key) ∙ ap (λ (u : Lister). endedAs u l (u .key)) e
+ending-same t s m n x l e d q =
+    ap₂ (λ (u v : List ℕ). endedAs t u v (t .key)) d q
+    ∙ ending-as t n l (t .key)
+    ∙ ap (λ (u : Lister). endedAs u n l (u .key)) e
 
-settled-as : (t : Lister) (l : List ℕ) (k : Key) → settled (endedAs t l k .0) ≡ endedAs t l k .0
-settled-as t l Unread = refl
-settled-as t l (Known w0 k0) = refl
-settled-as t l Bad = refl
+settled-as : (t : Lister) (m l : List ℕ) (k : Key) → settled (endedAs t m l k .0) ≡ endedAs t m l k .0
+settled-as t m l Unread = refl
+settled-as t m l (Known w0 k0) = refl
+settled-as t m l Bad = refl
 
-settled-ending : (t : Lister) (l : List ℕ) → settled (ending t l .0) ≡ ending t l .0
+settled-ending : (t : Lister) (m l : List ℕ) → settled (ending t m l .0) ≡ ending t m l .0
 unfolding ending
-settled-ending t l = settled-as t l (t .key)
+settled-ending t m l = settled-as t m l (t .key)
 
 closing-as : (t : Lister) (k : Key) → totalAs t k ≡ totalAs (settled t) k
 closing-as t Unread = refl
@@ -114,70 +116,78 @@ appended-text {d} {t} {out} {m} a =
     ∙ take-at (take (length t) t) (drop (0 + length t) d) (length t) (ap length (take-length t))
     ∙ take-length t
 
--- ---- after the bytes p the code keeps this, and said has been printed
+-- ---- after the bytes p the code keeps this, and said has been printed: m₀ is what stood in the memory of the serials before
 
-pub record Keeps (p : List ℕ) (t : Lister) (line said : List ℕ) : Type 0 where
-  pub state : settled t ≡ fed began p .state
-  pub held : Holds line (t .held) (fed began p .part)
-  pub printed : said ≡ fed began p .said
+module _ (m₀ : List ℕ) where
+  abbrev after : List ℕ → Sofar
+  after p = fed (began m₀) p
 
-pub keeps-none : (line : List ℕ) → 2150 ≤ length line → Keeps [] start line []
-unfolding fed
-keeps-none line h = record { state = refl; held = record { few = omega arith; room = h; bytes = refl }; printed = refl }
+  pub record Keeps (p : List ℕ) (t : Lister) (line m said : List ℕ) : Type 0 where
+    pub state : settled t ≡ after p .state
+    pub serials : m ≡ after p .serials
+    pub held : Holds line (t .held) (after p .part)
+    pub printed : said ≡ after p .said
 
-keeps-of : (p : List ℕ) (st : Sofar) (t : Lister) (line said : List ℕ) → fed began p ≡ st → settled t ≡ st .state → Holds line (t .held) (st .part) → said ≡ st .said → Keeps p t line said
-keeps-of p st t line said e a b c = record { state = rw e a; held = rw e b; printed = rw e c }
+  pub keeps-none : (line : List ℕ) → 2150 ≤ length line → Keeps [] start line m₀ []
+  unfolding fed
+  keeps-none line h = record { state = refl; serials = refl; held = record { few = omega arith; room = h; bytes = refl }; printed = refl }
 
-keeps-as : (p chunk line said out d : List ℕ) (t : Lister) (g : Gathered) (r : Fed) → settled t ≡ fed began p .state → said ≡ fed began p .said
-    → Gathers (fed began p) 0 chunk g line → Feeds t (g, line) d r line out → Keeps (p ++ take (r .taken) chunk) (r .state) line (said ++ take (r .said) out)
-keeps-as p chunk line said out d t g r e q (whole-line k l y n lo hi f h) u =
-    let st : Sofar = fed began p in
-    let both : fedBy t (g, line) ≡ ending (st .state) l = rw y (ending-same t (st .state) (take (g .held) line) l e (h .bytes)) in
-    let rs : r .state ≡ ending (st .state) l .0 = u .state ∙ ap (λ (x : Lister × List ℕ). x .0) both in
-    let none : r .state .held ≡ 0 = ap (λ (x : Lister). x .held) rs ∙ sym (ap (λ (x : Lister). x .held) (settled-ending (st .state) l)) in
-    keeps-of (p ++ take (r .taken) chunk) (ended st l) (r .state) line (said ++ take (r .said) out)
-    (fed-append began p (take (r .taken) chunk) ∙ ap (λ (j : ℕ). fed st (take j chunk)) (u .taken ∙ n ∙ zero-add k) ∙ f)
-    (ap settled rs ∙ settled-ending (st .state) l)
-    (record { few = omega (arith, none); room = h .room; bytes = ap (λ (j : ℕ). take j line) none })
-    (ap₂ _++_ q (appended-text (u .text) ∙ ap (λ (x : Lister × List ℕ). x .1) both))
-keeps-as p chunk line said out d t g r e q (more-of-it y n f h) u =
-    let st : Sofar = fed began p in
-    let both : fedBy t (g, line) ≡ (holding t (g .held), []) = rw y in
-    let rs : r .state ≡ holding t (g .held) = u .state ∙ ap (λ (x : Lister × List ℕ). x .0) both in
-    keeps-of (p ++ take (r .taken) chunk) (longer st (st .part ++ chunk)) (r .state) line (said ++ take (r .said) out)
-    (fed-append began p (take (r .taken) chunk) ∙ ap (fed st) (ap (λ (j : ℕ). take j chunk) (u .taken ∙ n ∙ zero-add (length chunk)) ∙ take-length chunk) ∙ f)
-    (ap settled rs ∙ e)
-    (subst (λ (j : ℕ). Holds line j (st .part ++ chunk)) (sym (ap (λ (x : Lister). x .held) rs)) h)
-    (ap₂ _++_ q (appended-text (u .text) ∙ ap (λ (x : Lister × List ℕ). x .1) both) ∙ append-nil (st .said))
+  keeps-of : (p : List ℕ) (st : Sofar) (t : Lister) (line m said : List ℕ) → after p ≡ st → settled t ≡ st .state → m ≡ st .serials → Holds line (t .held) (st .part) → said ≡ st .said → Keeps p t line m said
+  keeps-of p st t line m said e a f b c = record { state = rw e a; serials = rw e f; held = rw e b; printed = rw e c }
 
--- a chunk, or as much of it as was taken
-pub keeps-more : (p chunk line line′ said out d : List ℕ) (t : Lister) (r : Fed) → Keeps p t line said → Feeds t (gathering line (t .held) 0 chunk) d r line′ out
-    → Keeps (p ++ take (r .taken) chunk) (r .state) line′ (said ++ take (r .said) out)
-keeps-more p chunk line line′ said out d t r h u =
-    let g = gathering line (t .held) 0 chunk in
-    let v : Feeds t (g .0, g .1) d r (g .1) out = subst (λ (x : List ℕ). Feeds t g d r x out) (u .line) u in
-    subst (λ (x : List ℕ). Keeps (p ++ take (r .taken) chunk) (r .state) x (said ++ take (r .said) out)) (sym (u .line))
-    (keeps-as p chunk (g .1) said out d t (g .0) r (h .state) (h .printed) (gathers chunk (fed began p) line (t .held) 0 (h .held)) v)
+  keeps-as : (p chunk line m m′ said out d : List ℕ) (t : Lister) (g : Gathered) (r : Fed) → settled t ≡ after p .state → m ≡ after p .serials → said ≡ after p .said
+      → Gathers (after p) 0 chunk g line → Feeds t m (g, line) d r line m′ out → Keeps (p ++ take (r .taken) chunk) (r .state) line m′ (said ++ take (r .said) out)
+  keeps-as p chunk line m m′ said out d t g r e w q (whole-line k l y n lo hi f h) u =
+      let st : Sofar = after p in
+      let both : fedBy t m (g, line) ≡ brings st l = rw y (ending-same t (st .state) m (st .serials) (take (g .held) line) l e w (h .bytes)) in
+      let rs : r .state ≡ brings st l .0 = u .state ∙ ap (λ (x : Lister × List ℕ × List ℕ). x .0) both in
+      let settled-rs : settled (brings st l .0) ≡ brings st l .0 = settled-ending (st .state) (st .serials) l in
+      let none : r .state .held ≡ 0 = ap (λ (x : Lister). x .held) rs ∙ sym (ap (λ (x : Lister). x .held) settled-rs) in
+      keeps-of (p ++ take (r .taken) chunk) (ended st l) (r .state) line m′ (said ++ take (r .said) out)
+      (fed-append (began m₀) p (take (r .taken) chunk) ∙ ap (λ (j : ℕ). fed st (take j chunk)) (u .taken ∙ n ∙ zero-add k) ∙ f)
+      (ap settled rs ∙ settled-rs)
+      (u .serials ∙ ap (λ (x : Lister × List ℕ × List ℕ). x .1) both)
+      (record { few = omega (arith, none); room = h .room; bytes = ap (λ (j : ℕ). take j line) none })
+      (ap₂ _++_ q (appended-text (u .text) ∙ ap (λ (x : Lister × List ℕ × List ℕ). x .2) both))
+  keeps-as p chunk line m m′ said out d t g r e w q (more-of-it y n f h) u =
+      let st : Sofar = after p in
+      let both : fedBy t m (g, line) ≡ (holding t (g .held), m, []) = rw y in
+      let rs : r .state ≡ holding t (g .held) = u .state ∙ ap (λ (x : Lister × List ℕ × List ℕ). x .0) both in
+      keeps-of (p ++ take (r .taken) chunk) (longer st (st .part ++ chunk)) (r .state) line m′ (said ++ take (r .said) out)
+      (fed-append (began m₀) p (take (r .taken) chunk) ∙ ap (fed st) (ap (λ (j : ℕ). take j chunk) (u .taken ∙ n ∙ zero-add (length chunk)) ∙ take-length chunk) ∙ f)
+      (ap settled rs ∙ e)
+      (u .serials ∙ ap (λ (x : Lister × List ℕ × List ℕ). x .1) both ∙ w)
+      (subst (λ (j : ℕ). Holds line j (st .part ++ chunk)) (sym (ap (λ (x : Lister). x .held) rs)) h)
+      (ap₂ _++_ q (appended-text (u .text) ∙ ap (λ (x : Lister × List ℕ × List ℕ). x .2) both) ∙ append-nil (st .said))
 
--- the end: all that has been printed is the listing
-keeps-end : (q p line said d out e out′ : List ℕ) (t : Lister) (r : Ended) (m : ℕ) → Keeps p t line said → fed began p .part ≡ q → Ends (finishing t line) d r out → Appended e 0 (closing (r .state)) out′ m
-    → (said ++ take (r .said) out) ++ take m out′ ≡ allAs (fed began p) q
-unfolding finishing
-keeps-end [] p line said d out e out′ t r m h z u v =
-    let st : Sofar = fed began p in
-    let none : t .held ≡ 0 = sym (length-take-le (t .held) line (omega (arith, h .held .few, h .held .room))) ∙ ap length (h .held .bytes ∙ ap (take 2150) z) in
-    let fin : finishing t line ≡ (t, []) = rw (eq-eqb (t .held) 0 none) in
-    ap₂ _++_ (ap₂ _++_ (h .printed) (appended-text (u .text) ∙ ap (λ (x : Lister × List ℕ). x .1) fin) ∙ append-nil (st .said))
-    (appended-text v ∙ ap closing (u .state ∙ ap (λ (x : Lister × List ℕ). x .0) fin) ∙ closing-settled t ∙ ap closing (h .state))
-keeps-end (b ∷ q) p line said d out e out′ t r m h z u v =
-    let st : Sofar = fed began p in
-    let bytes : take (t .held) line ≡ take 2150 (b ∷ q) = h .held .bytes ∙ ap (take 2150) z in
-    let fin : finishing t line ≡ ending (st .state) (b ∷ q) =
-    rw (ne-eqb (t .held) 0 (λ n. absurd (omega (arith, n, ap length bytes, length-take (t .held) line, length-take 2150 (b ∷ q)))))
-    (ending-same t (st .state) (take (t .held) line) (b ∷ q) (h .state) bytes) in
-    ap₂ _++_ (ap₂ _++_ (h .printed) (appended-text (u .text) ∙ ap (λ (x : Lister × List ℕ). x .1) fin))
-    (appended-text v ∙ ap closing (u .state ∙ ap (λ (x : Lister × List ℕ). x .0) fin))
+  -- a chunk, or as much of it as was taken
+  pub keeps-more : (p chunk line line′ m m′ said out d : List ℕ) (t : Lister) (r : Fed) → Keeps p t line m said → Feeds t m (gathering line (t .held) 0 chunk) d r line′ m′ out
+      → Keeps (p ++ take (r .taken) chunk) (r .state) line′ m′ (said ++ take (r .said) out)
+  keeps-more p chunk line line′ m m′ said out d t r h u =
+      let g = gathering line (t .held) 0 chunk in
+      let v : Feeds t m (g .0, g .1) d r (g .1) m′ out = subst (λ (x : List ℕ). Feeds t m g d r x m′ out) (u .line) u in
+      subst (λ (x : List ℕ). Keeps (p ++ take (r .taken) chunk) (r .state) x m′ (said ++ take (r .said) out)) (sym (u .line))
+      (keeps-as p chunk (g .1) m m′ said out d t (g .0) r (h .state) (h .serials) (h .printed) (gathers chunk (after p) line (t .held) 0 (h .held)) v)
 
-pub whole-listing : (p line said d out e out′ : List ℕ) (t : Lister) (r : Ended) (m : ℕ) → Keeps p t line said → Ends (finishing t line) d r out → Appended e 0 (closing (r .state)) out′ m
-    → (said ++ take (r .said) out) ++ take m out′ ≡ listing p
-whole-listing p line said d out e out′ t r m h u v = keeps-end (fed began p .part) p line said d out e out′ t r m h refl u v ∙ reckons p
+  -- the end: all that has been printed is the listing
+  keeps-end : (q p line m m′ said d out e out′ : List ℕ) (t : Lister) (r : Ended) (n : ℕ) → Keeps p t line m said → after p .part ≡ q → Ends (finishing t m line) d r m′ out → Appended e 0 (closing (r .state)) out′ n
+      → (said ++ take (r .said) out) ++ take n out′ ≡ allAs (after p) q
+  unfolding finishing
+  keeps-end [] p line m m′ said d out e out′ t r n h z u v =
+      let st : Sofar = after p in
+      let none : t .held ≡ 0 = sym (length-take-le (t .held) line (omega (arith, h .held .few, h .held .room))) ∙ ap length (h .held .bytes ∙ ap (take 2150) z) in
+      let fin : finishing t m line ≡ (t, m, []) = rw (eq-eqb (t .held) 0 none) in
+      ap₂ _++_ (ap₂ _++_ (h .printed) (appended-text (u .text) ∙ ap (λ (x : Lister × List ℕ × List ℕ). x .2) fin) ∙ append-nil (st .said))
+      (appended-text v ∙ ap closing (u .state ∙ ap (λ (x : Lister × List ℕ × List ℕ). x .0) fin) ∙ closing-settled t ∙ ap closing (h .state))
+  keeps-end (b ∷ q) p line m m′ said d out e out′ t r n h z u v =
+      let st : Sofar = after p in
+      let bytes : take (t .held) line ≡ take 2150 (b ∷ q) = h .held .bytes ∙ ap (take 2150) z in
+      let fin : finishing t m line ≡ brings st (b ∷ q) =
+      rw (ne-eqb (t .held) 0 (λ k. absurd (omega (arith, k, ap length bytes, length-take (t .held) line, length-take 2150 (b ∷ q)))))
+      (ending-same t (st .state) m (st .serials) (take (t .held) line) (b ∷ q) (h .state) (h .serials) bytes) in
+      ap₂ _++_ (ap₂ _++_ (h .printed) (appended-text (u .text) ∙ ap (λ (x : Lister × List ℕ × List ℕ). x .2) fin))
+      (appended-text v ∙ ap closing (u .state ∙ ap (λ (x : Lister × List ℕ × List ℕ). x .0) fin))
+
+  pub whole-listing : length m₀ ≡ serialsMax → (p line m m′ said d out e out′ : List ℕ) (t : Lister) (r : Ended) (n : ℕ) → Keeps p t line m said → Ends (finishing t m line) d r m′ out → Appended e 0 (closing (r .state)) out′ n
+      → (said ++ take (r .said) out) ++ take n out′ ≡ listing p
+  whole-listing room p line m m′ said d out e out′ t r n h u v = keeps-end (after p .part) p line m m′ said d out e out′ t r n h refl u v ∙ reckons m₀ p room

@@ -1,10 +1,10 @@
 -- The key line: the computed test, and the two numbers.
-use Prim.Native.Nat.{ℕ, zero, suc, _+_, _-_, _^_, _≤_, _<_}
+use Prim.Native.Nat.{ℕ, zero, suc, _+_, _-_, _*_, _^_, _≤_, _<_}
 use mathlib.Core.Bool.{Bool, true, false, _&&_}
-use mathlib.Core.Path.{_≡_, refl, sym, subst, _∙_}
+use mathlib.Core.Path.{_≡_, refl, sym, ap, subst, _∙_}
 use mathlib.Core.List.{List}
 use mathlib.Core.Logic.{inl, inr}
-use native.Mathlib.Nat.{pow-le-pow-right, eq-or-lt-of-le, lt-of-lt-of-le}
+use native.Mathlib.Nat.{add-zero, add-suc, eq-or-lt-of-le}
 use native.Mathlib.Numerals.{add-one}
 use native.Mathlib.Omega.{arith}
 use borrow.Author.Tests.{lt-ltb, eq-eqb, ne-eqb, ltb-true}
@@ -12,18 +12,28 @@ use lib.Dec.{lit<, eqb}
 use lib.ListN.{length, getD}
 use Rattle.words.proofs.Cases.{both}
 use Rattle.line.specs.Reader.{hexValue, numberAt}
-use Rattle.line.proofs.Shape.{inside}
+use Rattle.line.proofs.Shape.{inside, num-next, num-small}
 use Rattle.line.proofs.Good.{num-below}
 use Rattle.listing.specs.Listing.{areDigits, isKey, w0Of, k0Of}
 use Rattle.listing.specs.Chunks.{keyOf}
 use Rattle.listing.specs.declared.Key.the-variants.{Known, Bad}
 
--- sixteen digits make a number of 64 bits
-pub key-room : (l : List ℕ) (a i : ℕ) → i < 16 → ((j : ℕ) → j < 16 → hexValue (getD l (a + j) 48) < 16) → numberAt l a i < 2 ^ 60
-key-room l a i h d =
-    let few : i ≤ 15 = omega arith in
-    let room : 16 ^ i ≤ 16 ^ 15 = pow-le-pow-right {n = 16} (lit< tt) few in
-    lt-of-lt-of-le (num-below l a i (λ j x y. let e : a + (j - a) ≡ j = omega arith in subst (λ (k : ℕ). hexValue (getD l k 48) < 16) e (d (j - a) (omega arith)))) room
+-- more digits make no smaller number
+num-up : (l : List ℕ) (a n k : ℕ) → numberAt l a n ≤ numberAt l a (n + k)
+unfolding numberAt
+num-up l a n zero = omega (arith, ap (numberAt l a) (add-zero n))
+num-up l a n (suc k) = rw (add-suc n k) (omega (arith, num-up l a n k))
+
+-- so that there is room for the next digit, where there is room for all
+pub num-room : (l : List ℕ) (a n i v : ℕ) → i < n → numberAt l a n < 2 ^ 64 → v ≡ numberAt l a i → v * 16 + hexValue (getD l (a + i) 48) < 2 ^ 64
+num-room l a n i v h room e =
+    let all : i + 1 + (n - (i + 1)) ≡ n = omega arith in
+    let up : numberAt l a (i + 1) ≤ numberAt l a n = subst (λ (k : ℕ). numberAt l a (i + 1) ≤ numberAt l a k) all (num-up l a (i + 1) (n - (i + 1))) in
+    omega (arith, up, room, num-next l a i v (hexValue (getD l (a + i) 48)) e refl)
+
+-- and for a few digits there is, whatever they are
+pub num-fits : (l : List ℕ) (a n : ℕ) → n ≤ 12 → numberAt l a n < 2 ^ 64
+num-fits l a n h = omega (arith, num-small l a n h)
 
 -- ---- digits, one by one
 
@@ -73,8 +83,9 @@ module _ (l : List ℕ) where
 
   -- ---- the key
 
-  pub key-digit : isKey l ≡ true → (a : ℕ) → a ≤ 16 → (i : ℕ) → i < 16 → hexValue (getD l (a + i) 48) < 16
-  key-digit h a u i v = digit-in l 32 (a + i) (key-digits h) (omega arith)
+  -- sixteen digits make a number of 64 bits
+  pub key-room : isKey l ≡ true → (a : ℕ) → a ≤ 16 → numberAt l a 16 < 2 ^ 64
+  key-room h a u = num-below l a 16 (λ i x y. digit-in l 32 i (key-digits h) (omega arith))
 
   pub key-bad : isKey l ≡ false → Bad ≡ keyOf l
   unfolding keyOf

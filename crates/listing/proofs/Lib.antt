@@ -1,10 +1,12 @@
 pub mod Texts
 pub mod Keys
 pub mod Gathering
+pub mod Used
 pub mod Long
 pub mod Bounds
 pub mod Lines
 pub mod Bytes
 pub mod Chunks
+pub mod Repeats
 pub mod Demands
 pub mod Outcomes

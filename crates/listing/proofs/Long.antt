@@ -1,12 +1,13 @@
 -- The first 2,150 bytes of a line decide.
-use Prim.Native.Nat.{ℕ}
-use mathlib.Core.Path.{_≡_, sym, ap, _∙_}
+use Prim.Native.Nat.{ℕ, zero, suc, _+_, _*_, _≤_}
+use mathlib.Core.Path.{_≡_, refl, sym, ap, ap₂, _∙_}
 use mathlib.Core.List.{List}
 use native.Mathlib.Nat.{le-refl}
 use native.Mathlib.Omega.{arith}
 use lib.ListN.{length, take, replicate, length-take}
-use lib.Seq.{take-all}
+use lib.Seq.{take-all, getD-take}
 use Rattle.words.proofs.Cases.{by-lt}
+use Rattle.line.specs.Reader.{hexValue, numberAt, serialOf}
 use Rattle.line.specs.Calls.{openingAs, openingLine}
 use Rattle.line.specs.declared.Reading.{Reading}
 use Rattle.line.proofs.Ends.{long-line, long-bad}
@@ -23,6 +24,14 @@ long-answer w0 k0 l =
     let short = long-bad l h in
     ap (λ (r : Reading). openingAs w0 k0 (take 2150 l) r (replicate 1024 0) .0) (long-line l 2150 (le-refl 2150) ∙ short)
     ∙ sym (ap (λ (r : Reading). openingAs w0 k0 l r (replicate 1024 0) .0) short))
+
+num-take : (l : List ℕ) (k a n : ℕ) → a + n ≤ k → numberAt (take k l) a n ≡ numberAt l a n
+unfolding numberAt
+num-take l k a zero h = refl
+num-take l k a (suc n) h = ap₂ (λ (x y : ℕ). x * 16 + hexValue y) (num-take l k a n (omega arith)) (getD-take k l (a + n) 48 (omega arith))
+
+pub long-serial : (l : List ℕ) → serialOf (take 2150 l) ≡ serialOf l
+long-serial l = num-take l 2150 3 11 (omega arith)
 
 pub long-key : (l : List ℕ) → keyOf (take 2150 l) ≡ keyOf l
 long-key l =

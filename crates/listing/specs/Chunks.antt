@@ -2,11 +2,15 @@
 use Prim.Native.Nat.{ℕ, _+_, _≤_, _<_, _^_}
 use mathlib.Core.Bool.{true, false, cond}
 use mathlib.Core.Path.{_≡_}
-use mathlib.Core.List.{List, [], _∷_}
+use mathlib.Core.List.{List, [], _∷_, _++_}
 use lib.Dec.{eqb, ltb}
-use lib.ListN.{length, take, set}
+use lib.ListN.{length, take, drop, set}
 use lib.Seq.{paste}
-use Rattle.listing.specs.Listing.{isKey, w0Of, k0Of, keyRefusedText, answerOf, report, one, total}
+use Rattle.refusals.specs.declared.Answer.{Answer}
+use Rattle.refusals.specs.declared.Answer.the-variants.{Wrote, Refused}
+use Rattle.serials.specs.Serials.{Rising, put}
+use Rattle.line.specs.Reader.{serialOf}
+use Rattle.listing.specs.Listing.{isKey, w0Of, k0Of, keyRefusedText, answerOf, serialsMax, unlessUsed, report, one, total}
 use Rattle.listing.specs.declared.Key.{Key}
 use Rattle.listing.specs.declared.Key.the-variants.{Unread, Known, Bad}
 use Rattle.listing.specs.declared.Lister.{Lister}
@@ -47,40 +51,56 @@ keyText Unread = []
 keyText (Known w0 k0) = []
 keyText Bad = keyRefusedText
 
--- a line l has ended: the new state, and what is printed
-abbrev pub endedAs : Lister → List ℕ → Key → Lister × List ℕ
-endedAs t l Unread = (record { key = keyOf l; lines = t .lines; opened = t .opened; held = 0 }, keyText (keyOf l))
-endedAs t l (Known w0 k0) = (
-  record { key = Known w0 k0; lines = t .lines + 1; opened = t .opened + one (answerOf w0 k0 l); held = 0 },
-  report (t .lines + 1) (answerOf w0 k0 l),
+-- the first n numbers of the lent memory m are the serials used; that of a line that opened is put in its place, and a refused line leaves the memory as it was
+abbrev pub usedIn : ℕ → ℕ → List ℕ → Answer → List ℕ
+usedIn n serial m (Wrote k) = put serial (take n m) ++ drop (n + 1) m
+usedIn n serial m (Refused r) = m
+
+-- what is answered for a line that by itself gets the answer a, and the memory then
+unfoldable pub answering : ℕ → ℕ → List ℕ → Answer → Answer × List ℕ
+answering n serial m a = (unlessUsed (take n m) serial a, usedIn n serial m (unlessUsed (take n m) serial a))
+
+-- a line under a known key has ended, and was answered so: the new state, the memory, and what is printed
+abbrev pub endedKnown : Lister → ℕ → ℕ → Answer × List ℕ → Lister × List ℕ × List ℕ
+endedKnown t w0 k0 x = (
+  record { key = Known w0 k0; lines = t .lines + 1; opened = t .opened + one (x .0); held = 0 },
+  x .1,
+  report (t .lines + 1) (x .0),
 )
-endedAs t l Bad = (record { key = Bad; lines = t .lines; opened = t .opened; held = 0 }, [])
 
-unfoldable pub ending : Lister → List ℕ → Lister × List ℕ
-ending t l = endedAs t l (t .key)
+-- a line l has ended
+abbrev pub endedAs : Lister → List ℕ → List ℕ → Key → Lister × List ℕ × List ℕ
+endedAs t m l Unread = (record { key = keyOf l; lines = t .lines; opened = t .opened; held = 0 }, m, keyText (keyOf l))
+endedAs t m l (Known w0 k0) = endedKnown t w0 k0 (answering (t .opened) (serialOf l) m (answerOf w0 k0 l))
+endedAs t m l Bad = (record { key = Bad; lines = t .lines; opened = t .opened; held = 0 }, m, [])
 
--- the state and the text are these: the text stands in the first bytes of out, where what was there is d
-pub record Ends (x : Lister × List ℕ) (d : List ℕ) (r : Ended) (out : List ℕ) : Type 0 where
+unfoldable pub ending : Lister → List ℕ → List ℕ → Lister × List ℕ × List ℕ
+ending t m l = endedAs t m l (t .key)
+
+-- the state, the memory and the text are these: the text stands in the first bytes of out, where what was there is d
+pub record Ends (x : Lister × List ℕ × List ℕ) (d : List ℕ) (r : Ended) (m out : List ℕ) : Type 0 where
   pub state : r .state ≡ x .0
-  pub text : Appended d 0 (x .1) out (r .said)
+  pub serials : m ≡ x .1
+  pub text : Appended d 0 (x .2) out (r .said)
 
 -- the state with n bytes held
 abbrev pub holding : Lister → ℕ → Lister
 holding t n = record { key = t .key; lines = t .lines; opened = t .opened; held = n }
 
 -- what a chunk brings: a line that ended, or more bytes of one that has not
-abbrev pub fedBy : Lister → Gathered × List ℕ → Lister × List ℕ
-fedBy t g = cond (g .0 .ended) (ending t (take (g .0 .held) (g .1))) (holding t (g .0 .held), [])
+abbrev pub fedBy : Lister → List ℕ → Gathered × List ℕ → Lister × List ℕ × List ℕ
+fedBy t m g = cond (g .0 .ended) (ending t m (take (g .0 .held) (g .1))) (holding t (g .0 .held), m, [])
 
-pub record Feeds (t : Lister) (g : Gathered × List ℕ) (d : List ℕ) (r : Fed) (l out : List ℕ) : Type 0 where
+pub record Feeds (t : Lister) (m : List ℕ) (g : Gathered × List ℕ) (d : List ℕ) (r : Fed) (l m′ out : List ℕ) : Type 0 where
   pub taken : r .taken ≡ g .0 .taken
-  pub state : r .state ≡ fedBy t g .0
+  pub state : r .state ≡ fedBy t m g .0
   pub line : l ≡ g .1
-  pub text : Appended d 0 (fedBy t g .1) out (r .said)
+  pub serials : m′ ≡ fedBy t m g .1
+  pub text : Appended d 0 (fedBy t m g .2) out (r .said)
 
 -- the last piece
-unfoldable pub finishing : Lister → List ℕ → Lister × List ℕ
-finishing t line = cond (eqb (t .held) 0) (t, []) (ending t (take (t .held) line))
+unfoldable pub finishing : Lister → List ℕ → List ℕ → Lister × List ℕ × List ℕ
+finishing t m line = cond (eqb (t .held) 0) (t, m, []) (ending t m (take (t .held) line))
 
 -- what is printed at the end
 abbrev pub totalAs : Lister → Key → List ℕ
@@ -96,3 +116,9 @@ pub record Kept (t : Lister) : Type 0 where
   pub few : t .opened ≤ t .lines
   pub lines : t .lines < 2 ^ 63
   pub held : t .held ≤ lineKept
+
+-- and of the memory, where n lines opened: it holds 4,096 numbers, and the first n rise
+pub record Remembers (n : ℕ) (m : List ℕ) : Type 0 where
+  pub room : length m ≡ serialsMax
+  pub few : n ≤ serialsMax
+  pub rising : Rising 0 (take n m)

@@ -1,15 +1,16 @@
 // The file checker's listing, reckoned from the chunks of its input.
 use refusals::Answer;
 use refusals::Refusal;
+use serials::Remembered;
 ghost use mathlib.Core.Path.{_≡_};
 ghost use mathlib.Core.List.{_++_};
-ghost use Prim.Native.Nat.{ℕ, _+_, _^_, _<_, _≤_};
-ghost use lib.ListN.{length, getD};
-ghost use Rattle.line.specs.Reader.{hexValue, numberAt};
+ghost use Prim.Native.Nat.{_+_, _^_, _<_, _≤_};
+ghost use lib.ListN.{length};
+ghost use Rattle.line.specs.Reader.{numberAt, serialOf};
 ghost use Rattle.refusals.specs.declared.Answer.the-variants.{Wrote, Refused};
 ghost use Rattle.listing.specs.declared.Key.the-variants.{Unread, Known};
 ghost use Rattle.listing.specs.Listing.{isKey, decimal, refusalText, report, answerOf, one, total};
-ghost use Rattle.listing.specs.Chunks.{pushing, pushed, gathering, Appended, keyOf, keyText, Ends, endedAs, ending, Feeds, finishing, closing, Kept};
+ghost use Rattle.listing.specs.Chunks.{pushing, pushed, gathering, Appended, keyOf, keyText, answering, Ends, endedAs, ending, Feeds, finishing, closing, Kept, Remembers};
 
 // How many bytes of a line are kept: one more than the longest good line has, so that they decide its reading.
 const LINE_KEPT: usize = 2150;
@@ -21,7 +22,7 @@ pub enum Key {
     Bad,
 }
 
-// What is kept between two chunks, beside the first bytes of the line that has not ended: the key, how many lines have ended, how many of them opened, and how many bytes are held.
+// What is kept between two chunks, beside the first bytes of the line that has not ended and the serials of the lines that opened: the key, how many lines have ended, how many of them opened, and how many bytes are held.
 pub struct Lister {
     pub key: Key,
     pub lines: u64,
@@ -133,14 +134,14 @@ fn put_total(out: &mut [u8], lines: u64, opened: u64) -> usize
     append(out, c, b"\n")
 }
 
-// The number of the sixteen digits from place a on.
-fn key_word(l: &[u8], a: usize) -> u64
-    requires { ⌜ (a ≤ 16) × ((i : ℕ) → i < 16 → hexValue (getD (now l) (a + i) 48) < 16) ⌝ }
-    ensures { λ r. ⌜ r ≡ numberAt (now (l .entry)) a 16 ⌝ }
+// The number of the n digits from place a on.
+fn number_at(l: &[u8], a: usize, n: usize) -> u64
+    requires { ⌜ ((a ≤ 16) × (n ≤ 16)) × (numberAt (now l) a n < 2 ^ 64) ⌝ }
+    ensures { λ r. ⌜ r ≡ numberAt (now (l .entry)) a n ⌝ }
 {
     let mut v: u64 = 0;
     let mut i = 0;
-    while i < 16 {
+    while i < n {
         v = v * 16 + line::digit_at(l, a + i);
         i += 1;
     }
@@ -175,12 +176,19 @@ fn read_key(l: &[u8]) -> Key
         return Key::Bad;
     }
     Key::Known {
-        w0: key_word(l, 0),
-        k0: key_word(l, 16),
+        w0: number_at(l, 0, 16),
+        k0: number_at(l, 16, 16),
     }
 }
 
-// What opening a line answers.
+// The serial that a line has.
+fn serial_of(l: &[u8]) -> u64
+    ensures { λ r. ⌜ r ≡ serialOf (now (l .entry)) ⌝ }
+{
+    number_at(l, 3, 11)
+}
+
+// What opening a line by itself answers.
 fn answer_of(w0: u64, k0: u64, l: &[u8]) -> Answer
     ensures { λ r. ⌜ r ≡ answerOf w0 k0 (now (l .entry)) ⌝ }
 {
@@ -195,6 +203,21 @@ fn one_of(a: Answer) -> u64
     match a {
         Answer::Wrote { .. } => 1,
         Answer::Refused(_) => 0,
+    }
+}
+
+// What is answered for a line that by itself gets the answer own, where n serials are remembered. That of a line that opened is remembered.
+fn unless_used(serials: &mut [u64], n: usize, l: &[u8], own: Answer) -> Answer
+    requires { ⌜ Remembers n (now serials) ⌝ }
+    ensures { λ r. ⌜ (r, now (serials .exit)) ≡ answering n (serialOf (now (l .entry))) (now (serials .entry)) own ⌝ }
+{
+    if one_of(own) == 0 {
+        return own;
+    }
+    match serials::remember(serials, n, serial_of(l)) {
+        Remembered::Fresh => own,
+        Remembered::Repeated => Answer::Refused(Refusal::RepeatedSerial),
+        Remembered::Full => Answer::Refused(Refusal::SerialListFull),
     }
 }
 
@@ -222,11 +245,12 @@ fn put_key(out: &mut [u8], key: Key) -> usize
 }
 
 // A line under a known key has ended.
-fn end_known(t: Lister, w0: u64, k0: u64, l: &[u8], out: &mut [u8]) -> Ended
-    requires { ⌜ Kept t × (128 ≤ length (now out)) ⌝ }
-    ensures { λ r. ⌜ Ends (endedAs t (now (l .entry)) (Known w0 k0)) (now (out .entry)) r (now (out .exit)) ⌝ }
+fn end_known(t: Lister, w0: u64, k0: u64, l: &[u8], serials: &mut [u64], out: &mut [u8]) -> Ended
+    requires { ⌜ (Kept t × Remembers (t .opened) (now serials)) × (128 ≤ length (now out)) ⌝ }
+    ensures { λ r. ⌜ Ends (endedAs t (now (serials .entry)) (now (l .entry)) (Known w0 k0)) (now (out .entry)) r (now (serials .exit)) (now (out .exit)) ⌝ }
 {
-    let a = answer_of(w0, k0, l);
+    let own = answer_of(w0, k0, l);
+    let a = unless_used(serials, t.opened as usize, l, own);
     let said = put_report(out, t.lines + 1, a);
     Ended {
         state: Lister {
@@ -240,9 +264,9 @@ fn end_known(t: Lister, w0: u64, k0: u64, l: &[u8], out: &mut [u8]) -> Ended
 }
 
 // The first line has ended.
-fn end_key(t: Lister, l: &[u8], out: &mut [u8]) -> Ended
+fn end_key(t: Lister, l: &[u8], serials: &mut [u64], out: &mut [u8]) -> Ended
     requires { ⌜ 128 ≤ length (now out) ⌝ }
-    ensures { λ r. ⌜ Ends (endedAs t (now (l .entry)) Unread) (now (out .entry)) r (now (out .exit)) ⌝ }
+    ensures { λ r. ⌜ Ends (endedAs t (now (serials .entry)) (now (l .entry)) Unread) (now (out .entry)) r (now (serials .exit)) (now (out .exit)) ⌝ }
 {
     let key = read_key(l);
     let said = put_key(out, key);
@@ -258,14 +282,14 @@ fn end_key(t: Lister, l: &[u8], out: &mut [u8]) -> Ended
 }
 
 // A line has ended.
-fn end_line(t: Lister, l: &[u8], out: &mut [u8]) -> Ended
-    requires { ⌜ Kept t × (128 ≤ length (now out)) ⌝ }
-    ensures { λ r. ⌜ Ends (ending t (now (l .entry))) (now (out .entry)) r (now (out .exit)) ⌝ }
+fn end_line(t: Lister, l: &[u8], serials: &mut [u64], out: &mut [u8]) -> Ended
+    requires { ⌜ (Kept t × Remembers (t .opened) (now serials)) × (128 ≤ length (now out)) ⌝ }
+    ensures { λ r. ⌜ Ends (ending t (now (serials .entry)) (now (l .entry))) (now (out .entry)) r (now (serials .exit)) (now (out .exit)) ⌝ }
 {
     let key = t.key;
     match key {
-        Key::Unread => end_key(t, l, out),
-        Key::Known { w0, k0 } => end_known(t, w0, k0, l, out),
+        Key::Unread => end_key(t, l, serials, out),
+        Key::Known { w0, k0 } => end_known(t, w0, k0, l, serials, out),
         Key::Bad => Ended {
             state: Lister {
                 key: Key::Bad,
@@ -317,13 +341,13 @@ fn gather(line: &mut [u8], held: usize, chunk: &[u8]) -> Gathered
 }
 
 // Takes bytes from a chunk up to its first 0A, and writes what there is to print of the line that ended.
-pub fn feed(t: Lister, line: &mut [u8], chunk: &[u8], out: &mut [u8]) -> Fed
-    requires { ⌜ (Kept t × (2150 ≤ length (now line))) × (128 ≤ length (now out)) ⌝ }
-    ensures { λ r. ⌜ Feeds t (gathering (now (line .entry)) (t .held) 0 (now (chunk .entry))) (now (out .entry)) r (now (line .exit)) (now (out .exit)) ⌝ }
+pub fn feed(t: Lister, line: &mut [u8], serials: &mut [u64], chunk: &[u8], out: &mut [u8]) -> Fed
+    requires { ⌜ (Kept t × Remembers (t .opened) (now serials)) × ((2150 ≤ length (now line)) × (128 ≤ length (now out))) ⌝ }
+    ensures { λ r. ⌜ Feeds t (now (serials .entry)) (gathering (now (line .entry)) (t .held) 0 (now (chunk .entry))) (now (out .entry)) r (now (line .exit)) (now (serials .exit)) (now (out .exit)) ⌝ }
 {
     let g = gather(line, t.held, chunk);
     if g.ended {
-        let e = end_line(t, &line[..g.held], out);
+        let e = end_line(t, &line[..g.held], serials, out);
         let state = e.state;
         return Fed {
             state,
@@ -345,14 +369,14 @@ pub fn feed(t: Lister, line: &mut [u8], chunk: &[u8], out: &mut [u8]) -> Fed
 }
 
 // A last piece without 0A is a line, if it is not empty.
-pub fn finish(t: Lister, line: &[u8], out: &mut [u8]) -> Ended
-    requires { ⌜ (Kept t × (2150 ≤ length (now line))) × (128 ≤ length (now out)) ⌝ }
-    ensures { λ r. ⌜ Ends (finishing t (now (line .entry))) (now (out .entry)) r (now (out .exit)) ⌝ }
+pub fn finish(t: Lister, line: &[u8], serials: &mut [u64], out: &mut [u8]) -> Ended
+    requires { ⌜ (Kept t × Remembers (t .opened) (now serials)) × ((2150 ≤ length (now line)) × (128 ≤ length (now out))) ⌝ }
+    ensures { λ r. ⌜ Ends (finishing t (now (serials .entry)) (now (line .entry))) (now (out .entry)) r (now (serials .exit)) (now (out .exit)) ⌝ }
 {
     if t.held == 0 {
         return Ended { state: t, said: 0 };
     }
-    end_line(t, &line[..t.held], out)
+    end_line(t, &line[..t.held], serials, out)
 }
 
 // Writes what closes the listing.

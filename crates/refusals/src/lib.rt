@@ -2,7 +2,7 @@
 ghost use mathlib.Core.Path.{_≡_};
 ghost use Rattle.refusals.specs.Refusals.{numberOf, placeOf, returnedOf};
 
-// The refusals of document 01, in the order of its table.
+// The refusals: those of document 01, in the order of its table, and those of document 02.
 pub enum Refusal {
     Settings,
     Length,
@@ -11,6 +11,8 @@ pub enum Refusal {
     Room,
     Disagrees,
     Line { place: u32 },
+    RepeatedSerial,
+    SerialListFull,
 }
 
 // What a call answers that writes to lent memory: how many bytes it wrote, or a refusal.
@@ -31,6 +33,8 @@ pub fn number(r: Refusal) -> u8
         Refusal::Room => 5,
         Refusal::Disagrees => 6,
         Refusal::Line { place: _ } => 7,
+        Refusal::RepeatedSerial => 8,
+        Refusal::SerialListFull => 9,
     }
 }
 
@@ -46,6 +50,8 @@ pub fn place(r: Refusal) -> u32
         Refusal::Room => 0,
         Refusal::Disagrees => 0,
         Refusal::Line { place } => place,
+        Refusal::RepeatedSerial => 0,
+        Refusal::SerialListFull => 0,
     }
 }
 

@@ -8,17 +8,19 @@ use Rattle.checker.proofs.close.Tie as tie
 
 last-short : tie.Need-flush-requires-2
 last-short c κs =
-    let p = c .before .before .before .before .before .before .before .before .before .before .before .pre in
-    let b = finish-bounded (now (c .before .before .before .before .before .before .before .before .before .before .before .args .line)) (p .0 .0) (c .before .before .before .before .finish .ensures) in
+    let a = c .before .before .before .before .before .before .before .before .before .before .before .before .before .before .before .args in
+    let p = c .before .before .before .before .before .before .before .before .before .before .before .before .before .before .before .pre in
+    let b = finish-bounded (now (a .line)) (now (a .serials)) (p .0 .0) (p .0 .2) (c .before .before .before .before .before .before .finish .ensures) in
     omega (arith, b .said, p .2 .1)
 
 still-kept : tie.Need-close-requires
 still-kept c κs =
-    let p = c .before .before .before .before .before .before .before .before .before .before .before .before .before .before .pre in
-    (next-kept (p .0 .1) (finish-bounded (now (c .before .before .before .before .before .before .before .before .before .before .before .before .before .before .args .line)) (p .0 .0) (c .before .before .before .before .before .before .before .finish .ensures)), search needs)
+    let a = c .before .before .before .before .before .before .before .before .before .before .before .before .before .before .before .before .before .before .args in
+    let p = c .before .before .before .before .before .before .before .before .before .before .before .before .before .before .before .before .before .before .pre in
+    (next-kept (p .0 .1) (finish-bounded (now (a .line)) (now (a .serials)) (p .0 .0) (p .0 .2) (c .before .before .before .before .before .before .before .before .before .finish .ensures)), search needs)
 
 total-short : tie.Need-flush-requires-3
-total-short c κs = omega (arith, total-bounded _ (c .before .before .before .close .ensures), c .before .before .before .before .before .before .before .before .before .before .before .before .before .before .before .before .before .before .pre .2 .1)
+total-short c κs = omega (arith, total-bounded _ (c .before .before .before .close .ensures), c .before .before .before .before .before .before .before .before .before .before .before .before .before .before .before .before .before .before .before .before .before .before .pre .2 .1)
 
 pub close-spec : {M : Type 1} → statement M
 close-spec =
@@ -31,7 +33,9 @@ close-spec =
     last-short
     (λ c. search needs)
     (λ c. search needs)
+    (λ c. search needs)
     still-kept
     total-short
+    (λ c. search needs)
     (λ c. search needs)
     (λ c. search needs))

@@ -11,4 +11,4 @@ end-key-spec =
     (λ c κs. search needs)
     (λ c κs. search needs)
     (λ c. search needs)
-    (λ c. rw (← c .before .before .before .before .read-key .ensures) (record { state = refl; text = c .before .before .put-key .ensures })))
+    (λ c. rw (← c .before .before .before .before .read-key .ensures) (record { state = refl; serials = refl; text = c .before .before .put-key .ensures })))

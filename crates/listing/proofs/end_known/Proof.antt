@@ -9,10 +9,12 @@ end-known-spec =
     tie.close
     (tie.spec
     (λ c κs. search needs)
-    (λ c. search needs)
     (λ c κs. search needs)
     (λ c. search needs)
     (λ c κs. search needs)
     (λ c. search needs)
+    (λ c κs. search needs)
     (λ c. search needs)
-    (λ c. rw (← c .before .before .before .before .before .before .before .before .answer-of .ensures, ← c .before .one-of .ensures .0) (record { state = refl; text = c .before .before .before .before .before .put-report .ensures })))
+    (λ c. search needs)
+    (λ c. search needs)
+    (λ c. rw (← c .before .before .before .before .before .before .before .before .before .before .before .before .answer-of .ensures, ← c .before .before .before .before .before .before .before .before .before .before .unless-used .ensures, ← c .before .one-of .ensures .0) (record { state = refl; serials = refl; text = c .before .before .before .before .before .put-report .ensures })))

@@ -17,8 +17,9 @@ feed-spec =
     (λ c κs. search needs)
     (λ c. search needs)
     (λ c. search needs)
-    (λ c.
-    let end = c .before .before .before .end-line .ensures in
-    rw (← c .before .before .before .before .before .before .before .before .before .gather .ensures .0, c .before .before .before .before .before .before .if1 .taken) (record { taken = refl; state = end .state; line = refl; text = end .text }))
     (λ c. search needs)
-    (λ c. rw (← c .before .before .before .gather .ensures .0, c .if1 .left) (record { taken = refl; state = refl; line = refl; text = nothing-appended _ })))
+    (λ c.
+    let end = c .before .before .before .before .before .end-line .ensures in
+    rw (← c .before .before .before .before .before .before .before .before .before .before .before .before .gather .ensures .0, c .before .before .before .before .before .before .before .before .before .if1 .taken) (record { taken = refl; state = end .state; line = refl; serials = end .serials; text = end .text }))
+    (λ c. search needs)
+    (λ c. rw (← c .before .before .before .gather .ensures .0, c .if1 .left) (record { taken = refl; state = refl; line = refl; serials = refl; text = nothing-appended _ })))

@@ -14,8 +14,9 @@ unfolding finishing
 finish-spec =
     tie.close
     (tie.spec
-    (λ c. rw (eq-eqb _ 0 (c .if1 .taken)) (record { state = refl; text = nothing-appended _ }))
-    (λ c. sym (length-take-le _ _ (omega (arith, c .before .before .before .before .before .pre .0 .0 .held))))
+    (λ c. rw (eq-eqb _ 0 (c .if1 .taken)) (record { state = refl; serials = refl; text = nothing-appended _ }))
+    (λ c. sym (length-take-le _ _ (omega (arith, c .before .before .before .before .before .before .pre .0 .0 .held))))
     (λ c κs. search needs)
     (λ c. search needs)
-    (λ c. rw (ne-eqb _ 0 (c .before .before .before .before .before .if1 .left)) (c .before .before .end-line .ensures)))
+    (λ c. search needs)
+    (λ c. rw (ne-eqb _ 0 (c .before .before .before .before .before .before .before .before .if1 .left)) (c .before .before .before .before .end-line .ensures)))

@@ -1,0 +1,4 @@
+pub mod Among
+pub mod Rising
+pub mod Places
+pub mod Outcomes

@@ -1,0 +1,2 @@
+pub mod Serials
+pub mod Workings
