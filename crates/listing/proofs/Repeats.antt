@@ -14,7 +14,7 @@ use Rattle.refusals.specs.declared.Answer.the-variants.{Wrote, Refused}
 use Rattle.refusals.specs.declared.Refusal.{Refusal}
 use Rattle.serials.proofs.Among.{among-here, among-there}
 use Rattle.line.specs.Reader.{serialOf}
-use Rattle.listing.specs.Listing.{answerOf, answerAfter, usedBy, usedAfter, answers, report, reports, one, openedIn, usedUpTo, answerBehind, UsedBefore}
+use Rattle.listing.specs.Listing.{answerOf, answerAfter, usedBy, usedAfter, answers, report, reports, one, openedIn, usedUpTo, answerBehind, UsedBefore, Once, once-more}
 use Rattle.listing.proofs.Used.{opened-as}
 
 -- ---- the serials that are used
@@ -144,3 +144,14 @@ module _ (w0 k0 : ℕ) where
   refused-uses-nothing before l r e m =
       ap (λ (u : List ℕ). answerAfter w0 k0 u m)
       (used-append [] before (l ∷ []) ∙ ap (usedBy (usedUpTo w0 k0 [] before) (serialOf l)) e)
+
+-- ---- no serial comes twice among the lines of a good file
+
+once-later : (x : ℕ) (used : List ℕ) (ys : List (List ℕ)) (m : List ℕ) (zs : List (List ℕ)) → Once used (ys ++ (m ∷ zs)) → among x used ≡ true → x ≡ serialOf m → ⊥
+once-later x used [] m zs (once-more f o) e same = clash (among x used) e (ap (λ (y : ℕ). among y used) same ∙ f)
+once-later x used (y ∷ ys) m zs (once-more f o) e same =
+    once-later x (serialOf y ∷ used) ys m zs o (by-eq x (serialOf y) (λ h. among-here x (serialOf y) used h) (λ h. among-there x (serialOf y) used h ∙ e)) same
+
+pub once-apart : (used : List ℕ) (xs : List (List ℕ)) (l : List ℕ) (ys : List (List ℕ)) (m : List ℕ) (zs : List (List ℕ)) → Once used (xs ++ (l ∷ (ys ++ (m ∷ zs)))) → serialOf l ≡ serialOf m → ⊥
+once-apart used [] l ys m zs (once-more f o) same = once-later (serialOf l) (serialOf l ∷ used) ys m zs o (among-here (serialOf l) (serialOf l) used refl) same
+once-apart used (x ∷ xs) l ys m zs (once-more f o) same = once-apart (serialOf x ∷ used) xs l ys m zs o same

@@ -48,18 +48,18 @@ read-all-spec =
     (λ c. search needs)
     (λ c κs. search needs)
     (λ c κs. search needs)
-    (λ c. search needs)
+    (λ c. c .before .before .before .before .before .before .before .before .before .loop .inv .0)
     (λ c. omega (arith, c .before .before .before .before .before .before .before .before .before .before .before .before .before .before .pre .0 .1, c .before .before .before .before .before .before .before .before .before .loop .inv .6 .room))
     (λ c. search needs)
-    (λ c. search needs)
+    (λ c. c .before .before .before .before .before .before .before .before .before .loop .inv .2)
     (λ c.
     let s = c .stop .ensures in
     let i = c .before .before .before .before .before .before .before .before .before .loop .inv in
     ((s .0 .0, omega (arith, s .0 .1, i .5), rw (s .0 .2) (i .6)), omega (arith, s .1)))
-    (λ c. search needs)
+    (λ c. c .before .before .before .before .before .before .before .loop .inv .0)
     (λ c. omega (arith, c .before .before .before .before .before .before .before .before .before .before .before .before .pre .0 .1, c .before .before .before .before .before .before .before .loop .inv .6 .room))
     (λ c. search needs)
-    (λ c. search needs)
+    (λ c. c .before .before .before .before .before .before .before .loop .inv .2)
     (λ c.
     let i = c .before .before .before .before .before .before .before .loop .inv in
     ((i .4, omega (arith, i .5), i .6), omega (arith, i .3, i .2)))
@@ -78,10 +78,10 @@ read-all-spec =
     (λ c. search needs)
     (λ c κs. search needs)
     (λ c κs. search needs)
-    (λ c. search needs)
+    (λ c. c .before .before .before .before .loop .inv .0)
     (λ c. omega (arith, c .before .before .before .before .before .before .before .before .before .pre .0 .1, c .before .before .before .before .loop .inv .6 .room))
     (λ c. search needs)
-    (λ c. search needs)
+    (λ c. c .before .before .before .before .loop .inv .2)
     (λ c.
     let s = c .stop2 .ensures in
     let i = c .before .before .before .before .loop .inv in
