@@ -43,7 +43,7 @@ TRACED := $(filter-out wasm32,$(PROCESSORS))
 # The longest first.
 TESTS = compare checker abuse $(PROCESSORS:%=for-%) unit refused loader $(TRACED:%=traced-%) watched marked variable calls example first install layout
 
-.PHONY: help run example check test tests $(TESTS:%=test-%) times bench known archive install board setup clean always
+.PHONY: help run example check test tests $(TESTS:%=test-%) times bench scan known archive install board setup clean always
 .SECONDARY:
 
 # One at a time, but for the tests.
@@ -155,6 +155,9 @@ bench: setup build/bench $(TIMED) build/checker $(SECOND) build/used build/cases
 	bench/listing "$(EMULATOR) build/checker lines" build/used "$(CHECKER)" $(SECOND)
 	bench/processors
 	bench/variable
+
+scan: setup build/checker $(SECOND) build/used ## time the checker with a scan of the list of serials beside the one that halves
+	bench/scan "$(EMULATOR) build/checker lines" build/used $(SECOND)
 
 archive: known build/$(FOR)/libkkurimyeot.a ## prove the library and write its archive FOR=NAME, a processor of tools/processors
 	@for file in build/"$$FOR"/*kkurimyeot.*; do echo "for $$FOR: $$file"; done

@@ -200,7 +200,8 @@
  * radiation or a fault brought about from outside can tell. Copies of keys, blocks
  * and messages that a call leaves in registers or on the stack are not wiped; a
  * refused kk_open() or kk_open_line() too may leave some there. No call knows which
- * serials were used before: a frame opens as often as it is handed in.
+ * serials were used before: a frame opens as often as it is handed in. The file
+ * checker refuses a repeat, within one file.
  *
  *
  * Examples
@@ -270,7 +271,7 @@ typedef size_t kk_size;
 /* Bytes of the five words that kk_read_line() writes. */
 #define KK_READ_BYTES 40
 
-/* What kk_refusal() gives. */
+/* The refusals by their numbers. kk_refusal() gives one of 0 to 7. */
 enum kk_refusals {
     KK_NOT_REFUSED = 0,
     KK_REFUSED_SETTINGS = 1,    /* box or rounds outside the limits */
@@ -284,7 +285,7 @@ enum kk_refusals {
 
     /* No call here gives these two. The file checker does: it remembers the serials
        of the lines that opened in a file. */
-    KK_REFUSED_REPEATED_SERIAL = 8, /* a line before has opened under the serial */
+    KK_REFUSED_REPEATED_SERIAL = 8, /* a line before it opened under its serial */
     KK_REFUSED_SERIAL_LIST_FULL = 9 /* a fresh serial after 4,096 others */
 };
 

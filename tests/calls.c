@@ -769,6 +769,13 @@ static void lines_by_example(void)
     check(next == SERIAL + 1 && untouched_from(0), "a reading too long, nothing changed");
 }
 
+/* The refusals that the file checker gives and no call does. */
+static void names_refusals(void)
+{
+    check(KK_REFUSED_REPEATED_SERIAL == 8, "KK_REFUSED_REPEATED_SERIAL");
+    check(KK_REFUSED_SERIAL_LIST_FULL == 9, "KK_REFUSED_SERIAL_LIST_FULL");
+}
+
 int main(void)
 {
     uint64_t answer, w1;
@@ -823,6 +830,7 @@ int main(void)
     no_lines();
     no_line_anywhere();
     no_line_damaged();
+    names_refusals();
 
     check(kk_example(W0, K0, TWEAK, PLAIN), "the header's example");
     seals_by_example();

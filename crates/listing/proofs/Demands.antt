@@ -1,23 +1,25 @@
--- "opened is the number of lines that open by demand 2", and under a serial that no opened line before had; a file is good exactly when its listing ends with refused 0.
-use Prim.Native.Nat.{ℕ, suc, _+_, _-_, _*_, _≤_, _<_}
+-- "opened is the number of lines that open by demand 2", now under a serial that no opened line before had, and with room in the list; 8 and 9; a file is good exactly when its listing has a total and refused is 0 there.
+use Prim.Native.Nat.{ℕ, _+_, _-_, _*_, _≤_, _<_}
 use mathlib.Core.Path.{_≡_, refl, sym, ap, subst, _∙_}
 use mathlib.Core.Bool.{Bool, true, false, cond}
 use mathlib.Core.List.{List, [], _∷_, _++_}
 use native.Mathlib.Omega.{arith}
 use lib.ListN.{length, replicate}
 use Rattle.words.specs.Lists.{among}
+use Rattle.words.proofs.Cases.{clash}
 use Rattle.refusals.specs.declared.Answer.{Answer}
 use Rattle.refusals.specs.declared.Answer.the-variants.{Wrote, Refused}
 use Rattle.refusals.specs.declared.Refusal.{Refusal}
+use Rattle.refusals.specs.declared.Refusal.the-variants.{RepeatedSerial, SerialListFull}
+use Rattle.refusals.specs.Refusals.{numberOf}
 use Rattle.line.specs.Reader.{serialOf, labelLength, messageLength, place, good, reading}
 use Rattle.line.specs.Calls.{openingLine, WrittenFrom}
-use Rattle.line.specs.declared.Reading.{Reading}
 use Rattle.line.specs.declared.Reading.the-variants.{Fields, NotLine}
-use Rattle.line.proofs.Demands.{line-opens, line-opens-only, written-reads}
+use Rattle.line.proofs.Demands.{line-opens, line-opens-only, written-reads, open-line-can}
 use Rattle.listing.proofs.Bounds.{one-few}
-use Rattle.listing.proofs.Used.{Opened, opened-as, fresh}
+use Rattle.listing.proofs.Used.{repeated, list-full, fresh, opened-as, refused-as, Why, alone, used-before-it, no-room}
 use Rattle.listing.proofs.Lines.{listed-key}
-use Rattle.listing.proofs.Repeats.{not-used, unused, opened-before, refused-uses-nothing}
+use Rattle.listing.proofs.Repeats.{used-before, before-used, not-used, unused, opened-before, refused-uses-nothing}
 use Rattle.listing.specs.Listing.{linesOf, isKey, w0Of, k0Of, answerOf, serialsMax, unlessUsed, answerAfter, usedBy, usedAfter, answers, one, openedIn, reported, listed, listing, usedUpTo, answerBehind, UsedBefore, Opens, none, more, Once, once-none, once-more, GoodFile}
 
 -- the serial of a line that has one
@@ -78,9 +80,63 @@ module _ (w0 k0 : ℕ) where
           room = omega (arith, o .room, opened-before w0 k0 before);
         }
 
-  -- behind a refused line: a line that was refused before can be followed by one that opens under the same serial
-  pub opens-later : (before : List (List ℕ)) (l : List ℕ) (r : Refusal) → answerBehind w0 k0 before l ≡ Refused r → (m : List ℕ) (k : ℕ) → OpensBehind before m k → answerBehind w0 k0 (before ++ (l ∷ [])) m ≡ Wrote k
-  opens-later before l r e m k o = refused-uses-nothing w0 k0 before l r e m ∙ opens-behind before m k o
+  -- a refused line stands in no later line's way, not even in that of one with its serial
+  pub opens-later : (before : List (List ℕ)) (l : List ℕ) (r : Refusal) → answerBehind w0 k0 before l ≡ Refused r → (between : List (List ℕ)) (m : List ℕ) (k : ℕ)
+      → OpensBehind (before ++ between) m k → answerBehind w0 k0 (before ++ (l ∷ between)) m ≡ Wrote k
+  opens-later before l r e between m k o = refused-uses-nothing w0 k0 before l r e between m ∙ opens-behind (before ++ between) m k o
+
+  -- ---- 8 and 9: exactly for a line that opens by demand 2, 8 where a line before it was reported as opened under its serial, 9 where none was and the list is full
+
+  pub record RepeatsBehind (before : List (List ℕ)) (l : List ℕ) : Type 0 where
+    pub from : WrittenFrom w0 k0 l
+    pub used : UsedBefore w0 k0 (from .serial) before
+
+  pub record FullBehind (before : List (List ℕ)) (l : List ℕ) : Type 0 where
+    pub from : WrittenFrom w0 k0 l
+    pub unused : UsedBefore w0 k0 (from .serial) before → ⊥
+    pub full : serialsMax ≤ openedIn (answers w0 k0 [] before)
+
+  -- by itself a line gets neither
+  not-alone : (l : List ℕ) (r : Refusal) → answerOf w0 k0 l ≡ Refused r → among (numberOf r) (7 ∷ 5 ∷ 6 ∷ []) ≡ true
+  unfolding answerOf
+  not-alone l r e = let left = openingLine w0 k0 l (replicate 1024 0) .1 in open-line-can w0 k0 l (replicate 1024 0) .only r left (λ i. (e i, left)) .0
+
+  module _ (before : List (List ℕ)) (l : List ℕ) where
+    abbrev used : List ℕ
+    used = usedUpTo w0 k0 [] before
+
+    -- whether the serial is used, seen from the line and from what it was written with
+    same-serial : (x : WrittenFrom w0 k0 l) → among (serialOf l) used ≡ among (x .serial) used
+    same-serial x = ap (λ (y : ℕ). among y used) (written-serial x)
+
+    as-written : (x : WrittenFrom w0 k0 l) → answerBehind w0 k0 before l ≡ unlessUsed used (serialOf l) (Wrote (length (x .message)))
+    as-written x = ap (unlessUsed used (serialOf l)) (written-opens x)
+
+    pub repeats-behind : RepeatsBehind before l → answerBehind w0 k0 before l ≡ Refused RepeatedSerial
+    repeats-behind r = as-written (r .from) ∙ repeated used (serialOf l) _ (same-serial (r .from) ∙ before-used w0 k0 (r .from .serial) before (r .used))
+
+    pub full-behind : FullBehind before l → answerBehind w0 k0 before l ≡ Refused SerialListFull
+    full-behind f =
+        as-written (f .from)
+        ∙ list-full used (serialOf l) _ (same-serial (f .from) ∙ not-used w0 k0 (f .from .serial) before (f .unused)) (omega (arith, f .full, opened-before w0 k0 before))
+
+    pub repeated-behind : answerBehind w0 k0 before l ≡ Refused RepeatedSerial → RepeatsBehind before l
+    repeated-behind e = go (refused-as used (serialOf l) (answerOf w0 k0 l) RepeatedSerial e)
+      where
+        go : Why used (serialOf l) (answerOf w0 k0 l) RepeatedSerial → RepeatsBehind before l
+        go (alone a) = absurd (clash false (not-alone l RepeatedSerial a) refl)
+        go (used-before-it k w y q) = let x = opened-written k w in record { from = x; used = used-before w0 k0 (x .serial) before (sym (same-serial x) ∙ y) }
+        go (no-room k w n h q) = absurd (omega (arith, ap numberOf q))
+
+    pub filled-behind : answerBehind w0 k0 before l ≡ Refused SerialListFull → FullBehind before l
+    filled-behind e = go (refused-as used (serialOf l) (answerOf w0 k0 l) SerialListFull e)
+      where
+        go : Why used (serialOf l) (answerOf w0 k0 l) SerialListFull → FullBehind before l
+        go (alone a) = absurd (clash false (not-alone l SerialListFull a) refl)
+        go (used-before-it k w y q) = absurd (omega (arith, ap numberOf q))
+        go (no-room k w n h q) =
+            let x = opened-written k w in
+            record { from = x; unused = unused w0 k0 (x .serial) before (sym (same-serial x) ∙ n); full = omega (arith, h, opened-before w0 k0 before) }
 
   -- ---- all lines
 

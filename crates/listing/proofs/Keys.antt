@@ -8,7 +8,7 @@ use native.Mathlib.Nat.{add-zero, add-suc, eq-or-lt-of-le}
 use native.Mathlib.Numerals.{add-one}
 use native.Mathlib.Omega.{arith}
 use borrow.Author.Tests.{lt-ltb, eq-eqb, ne-eqb, ltb-true}
-use lib.Dec.{lit<, eqb}
+use lib.Dec.{eqb}
 use lib.ListN.{length, getD}
 use Rattle.words.proofs.Cases.{both}
 use Rattle.line.specs.Reader.{hexValue, numberAt}

@@ -1,5 +1,5 @@
 -- Request 1 of document 02, "A serial used twice": no serial is reported as opened twice, and refused lines use up nothing.
-use Prim.Native.Nat.{ℕ, _+_, _≤_, _<_}
+use Prim.Native.Nat.{ℕ, _+_}
 use mathlib.Core.Bool.{true, false}
 use mathlib.Core.Path.{_≡_, refl, sym, ap, ap₂, _∙_}
 use mathlib.Core.Logic.{_⊎_, inl, inr}
@@ -75,14 +75,14 @@ module _ (w0 k0 : ℕ) where
       ]
 
   module _ (x : ℕ) (before : List (List ℕ)) where
-    used-before : among x (usedUpTo w0 k0 [] before) ≡ true → UsedBefore w0 k0 x before
+    pub used-before : among x (usedUpTo w0 k0 [] before) ≡ true → UsedBefore w0 k0 x before
     used-before e =
         elim (used-by-one x [] before e) [
           | inl h ↦ absurd (clash false h refl)
           | inr h ↦ record { earlier = h .earlier; line = h .line; later = h .later; cut = h .cut; size = h .size; opened = h .opened; same = h .same }
         ]
 
-    before-used : UsedBefore w0 k0 x before → among x (usedUpTo w0 k0 [] before) ≡ true
+    pub before-used : UsedBefore w0 k0 x before → among x (usedUpTo w0 k0 [] before) ≡ true
     before-used h =
         let u = usedUpTo w0 k0 [] (h .earlier) in
         let now : usedAfter w0 k0 u (h .line) ≡ serialOf (h .line) ∷ u = ap (usedBy u (serialOf (h .line))) (h .opened) in
@@ -139,11 +139,14 @@ module _ (w0 k0 : ℕ) where
       unused (serialOf m) (before ++ (l ∷ between)) (opened-as (usedUpTo w0 k0 [] (before ++ (l ∷ between))) (serialOf m) (answerOf w0 k0 m) k f .unused)
       (record { earlier = before; line = l; later = between; cut = refl; size = j; opened = e; same = same })
 
-  -- a refused line uses up nothing: what comes behind it is answered as if it were not there
-  pub refused-uses-nothing : (before : List (List ℕ)) (l : List ℕ) (r : Refusal) → answerBehind w0 k0 before l ≡ Refused r → (m : List ℕ) → answerBehind w0 k0 (before ++ (l ∷ [])) m ≡ answerBehind w0 k0 before m
-  refused-uses-nothing before l r e m =
+  -- a refused line uses up nothing: each line behind it is answered as if it were not there
+  pub refused-uses-nothing : (before : List (List ℕ)) (l : List ℕ) (r : Refusal) → answerBehind w0 k0 before l ≡ Refused r → (between : List (List ℕ)) (m : List ℕ)
+      → answerBehind w0 k0 (before ++ (l ∷ between)) m ≡ answerBehind w0 k0 (before ++ between) m
+  refused-uses-nothing before l r e between m =
       ap (λ (u : List ℕ). answerAfter w0 k0 u m)
-      (used-append [] before (l ∷ []) ∙ ap (usedBy (usedUpTo w0 k0 [] before) (serialOf l)) e)
+      (used-append [] before (l ∷ between)
+      ∙ ap (λ (u : List ℕ). usedUpTo w0 k0 u between) (ap (usedBy (usedUpTo w0 k0 [] before) (serialOf l)) e)
+      ∙ sym (used-append [] before between))
 
 -- ---- no serial comes twice among the lines of a good file
 

@@ -1,14 +1,13 @@
 -- The serials that are used: what is answered for a line, and what is remembered then.
 use Prim.Native.Nat.{ℕ, _+_, _≤_, _<_}
-use mathlib.Core.Bool.{Bool, true, false}
-use mathlib.Core.Path.{_≡_, refl, sym, ap, ap₂, subst, _∙_}
-use mathlib.Core.List.{List, [], _∷_, _++_}
+use mathlib.Core.Bool.{true, false}
+use mathlib.Core.Path.{_≡_, refl, sym, ap, subst, _∙_}
+use mathlib.Core.List.{List}
 use mathlib.Core.Logic.{inl, inr}
 use native.Mathlib.Nat.{add-zero}
 use native.Mathlib.Omega.{arith}
 use lib.ListN.{length, take, drop, length-append, length-drop}
 use lib.Seq.{length-take-le}
-use Rattle.words.specs.Cases.{ifLe, ifYes}
 use Rattle.words.specs.Lists.{among}
 use Rattle.words.proofs.Cases.{by-lt, yes-or-no, yes-case, no-case, le-case, gt-case}
 use Rattle.refusals.specs.declared.Answer.{Answer}
@@ -18,10 +17,9 @@ use Rattle.refusals.specs.declared.Refusal.the-variants.{RepeatedSerial, Serial
 use Rattle.serials.specs.Serials.{Rising, none, put, remembering}
 use Rattle.serials.specs.declared.Remembered.{Remembered}
 use Rattle.serials.specs.declared.Remembered.the-variants.{Fresh, Repeated, Full}
-use Rattle.serials.proofs.Rising.{put-rising, put-length, put-among}
-use Rattle.serials.proofs.Among.{among-both}
+use Rattle.serials.proofs.Rising.{put-rising, put-length}
 use Rattle.serials.proofs.Places.{repeats, finds-full, remembers, first-numbers}
-use Rattle.listing.specs.Listing.{serialsMax, unlessUsed, usedBy, one}
+use Rattle.listing.specs.Listing.{serialsMax, unlessUsed, one}
 use Rattle.listing.specs.Chunks.{usedIn, answering, Remembers}
 
 -- ---- what is answered, case by case
@@ -51,6 +49,26 @@ opened-as used serial (Wrote j) k e =
           by-lt (length used) serialsMax
           (λ h. record { alone = sym (fresh used serial j n h) ∙ e; unused = n; room = h })
           (λ h. absurd (omega (arith, ap one (sym (list-full used serial j n h) ∙ e))))
+    ]
+
+-- why a line is refused: by itself, because its serial is used, or because there is no room for it
+pub data Why (used : List ℕ) (serial : ℕ) (own : Answer) (r : Refusal) : Type 0 where
+  alone : own ≡ Refused r → Why used serial own r
+  used-before-it : (k : ℕ) → own ≡ Wrote k → among serial used ≡ true → r ≡ RepeatedSerial → Why used serial own r
+  no-room : (k : ℕ) → own ≡ Wrote k → among serial used ≡ false → serialsMax ≤ length used → r ≡ SerialListFull → Why used serial own r
+
+refusal-of : {q r : Refusal} → _≡_ {A = Answer} (Refused q) (Refused r) → r ≡ q
+refusal-of e = cc
+
+pub refused-as : (used : List ℕ) (serial : ℕ) (own : Answer) (r : Refusal) → unlessUsed used serial own ≡ Refused r → Why used serial own r
+refused-as used serial (Refused q) r e = alone e
+refused-as used serial (Wrote k) r e =
+    elim (yes-or-no (among serial used)) [
+      | inl y ↦ used-before-it k refl y (refusal-of (sym (repeated used serial k y) ∙ e))
+      | inr n ↦
+          by-lt (length used) serialsMax
+          (λ h. absurd (omega (arith, ap one (sym (fresh used serial k n h) ∙ e))))
+          (λ h. no-room k refl n h (refusal-of (sym (list-full used serial k n h) ∙ e)))
     ]
 
 -- a refused line stays refused, and uses up nothing

@@ -206,7 +206,7 @@ fn one_of(a: Answer) -> u64
     }
 }
 
-// What is answered for a line that by itself gets the answer own, where n serials are remembered. That of a line that opened is remembered.
+// What is answered for a line that by itself gets the answer own, where n serials are remembered. The serial of a line that opened is remembered.
 fn unless_used(serials: &mut [u64], n: usize, l: &[u8], own: Answer) -> Answer
     requires { ⌜ Remembers n (now serials) ⌝ }
     ensures { λ r. ⌜ (r, now (serials .exit)) ≡ answering n (serialOf (now (l .entry))) (now (serials .entry)) own ⌝ }
