@@ -13,11 +13,11 @@ boxes =
     ∷ (11 ∷ 6 ∷ 8 ∷ 15 ∷ 12 ∷ 0 ∷ 9 ∷ 14 ∷ 3 ∷ 7 ∷ 4 ∷ 5 ∷ 13 ∷ 2 ∷ 1 ∷ 10 ∷ [])
     ∷ []
 
--- "the inverse box" (that each undoes its box: `Lawful.antt`)
+-- "the inverse box": boxes 0 and 1 are "involutory" (document 000, 3.3), so the inverse of each is the box; box 2 has another (that each undoes its box: `Lawful.antt`)
 abbrev pub unboxes : List (List ℕ)
 unboxes =
-    (0 ∷ 14 ∷ 2 ∷ 10 ∷ 9 ∷ 15 ∷ 8 ∷ 11 ∷ 6 ∷ 4 ∷ 3 ∷ 7 ∷ 13 ∷ 12 ∷ 1 ∷ 5 ∷ [])
-    ∷ (10 ∷ 13 ∷ 14 ∷ 6 ∷ 15 ∷ 7 ∷ 3 ∷ 5 ∷ 9 ∷ 8 ∷ 0 ∷ 12 ∷ 11 ∷ 1 ∷ 2 ∷ 4 ∷ [])
+    getD boxes 0 []
+    ∷ getD boxes 1 []
     ∷ (5 ∷ 14 ∷ 13 ∷ 8 ∷ 10 ∷ 11 ∷ 1 ∷ 9 ∷ 2 ∷ 6 ∷ 15 ∷ 0 ∷ 4 ∷ 12 ∷ 7 ∷ 3 ∷ [])
     ∷ []
 

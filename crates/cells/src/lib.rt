@@ -5,7 +5,7 @@ ghost use Prim.Native.Nat.{_<_};
 ghost use Rattle.words.specs.Lists.{_!_};
 ghost use Rattle.cells.specs.Cells.{Below, cell, cut, joined, added, looked, shuffled, unshuffled, rotated, rowSum, mixedColumn, mixed, bitStepped, bitUnstepped, stepped, unstepped};
 ghost use Rattle.cells.specs.Qarma64.{qarma64, entries};
-ghost use Rattle.cells.specs.Workings.{nibbles, ofRows, transposed, bitMoved, movedRow};
+ghost use Rattle.cells.specs.Workings.{nibbles, boxOr, ofRows, transposed, bitMoved, movedRow};
 
 // The mix: row x of the entries (x, j), by which cell j is rotated left; 0 stands for "-", which adds nothing.
 const ENTRIES: [[u8; 4]; 4] = [[0, 1, 2, 1], [1, 0, 1, 2], [2, 1, 0, 1], [1, 2, 1, 0]];
@@ -44,28 +44,31 @@ fn mix_column(column: [u8; 4]) -> [u8; 4]
     out
 }
 
-// A box as a word: the output for input v is cell v from the least significant.
-fn box_word(number: u64) -> u64
-    requires { ⌜ number < 3 ⌝ }
-    ensures { λ r. ⌜ nibbles r ≡ qarma64 .box number ⌝ }
-{
-    match number {
-        0 => 0x51CD7346B8F9A2E0,
-        1 => 0x421BC089537F6EDA,
-        _ => 0xA12D5473E90CF86B,
-    }
-}
+// Box 0 as a word: the output for input v is cell v from the least significant. It is its own inverse.
+const BOX_0: u64 = 0x51CD7346B8F9A2E0;
 
-// The inverse of a box, in the same form.
-fn unbox_word(number: u64) -> u64
+// Box 1, its own inverse too.
+const BOX_1: u64 = 0x421BC089537F6EDA;
+
+// Box 2.
+const BOX_2: u64 = 0xA12D5473E90CF86B;
+
+// The inverse of box 2.
+const UNBOX_2: u64 = 0x37C40F6291BA8DE5;
+
+// The word of box 0 or 1, for both directions, or the word given for box 2.
+fn box_word(number: u64, two: u64) -> u64
     requires { ⌜ number < 3 ⌝ }
-    ensures { λ r. ⌜ nibbles r ≡ qarma64 .unbox number ⌝ }
+    ensures { λ r. ⌜ nibbles r ≡ boxOr (nibbles two) number ⌝ }
 {
-    match number {
-        0 => 0x51CD7346B8F9A2E0,
-        1 => 0x421BC089537F6EDA,
-        _ => 0x37C40F6291BA8DE5,
+    let mut word = two;
+    if number == 1 {
+        word = BOX_1;
     }
+    if number == 0 {
+        word = BOX_0;
+    }
+    word
 }
 
 // A cell as a number of 64 bits, to shift by.
@@ -192,11 +195,12 @@ impl Cells {
         Cells { at: out }
     }
 
-    // Each cell looked up in a box.
-    fn look(self, table: u64) -> Cells
-        requires { ⌜ Below 4 self ⌝ }
-        ensures { λ r. ⌜ r ≡ looked (nibbles table) self ⌝ }
+    // Each cell looked up in box 0 or 1, or in the word given for box 2.
+    fn look(self, number: u64, two: u64) -> Cells
+        requires { ⌜ (number < 3) × Below 4 self ⌝ }
+        ensures { λ r. ⌜ r ≡ looked (boxOr (nibbles two) number) self ⌝ }
     {
+        let table = box_word(number, two);
         let mut out = [0u8; 16];
         for i in 0..16 {
             out[i] = look_up(table, self.at[i]);
@@ -209,7 +213,7 @@ impl Cells {
         requires { ⌜ (number < 3) × Below 4 self ⌝ }
         ensures { λ r. ⌜ r ≡ looked (qarma64 .box number) self ⌝ }
     {
-        self.look(box_word(number))
+        self.look(number, BOX_2)
     }
 
     // The inverse box on each cell.
@@ -217,7 +221,7 @@ impl Cells {
         requires { ⌜ (number < 3) × Below 4 self ⌝ }
         ensures { λ r. ⌜ r ≡ looked (qarma64 .unbox number) self ⌝ }
     {
-        self.look(unbox_word(number))
+        self.look(number, UNBOX_2)
     }
 
     // Four cells, by their numbers.

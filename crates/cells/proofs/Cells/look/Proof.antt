@@ -1,4 +1,4 @@
--- `Cells::look` meets its contract: the loop fills the sixteen cells that the table has.
+-- `Cells::look` meets its contract: the loop fills the sixteen cells that the table of the word has, which is the box's.
 use mathlib.Core.Path.{ap}
 use mathlib.Core.List.{List}
 use Prim.Native.Nat.{ℕ, _-_}
@@ -14,13 +14,14 @@ unfolding looked
 look-spec =
     tie.close
     (tie.spec
-    (λ table self out₀ i₀ out i. Filled 16 (λ k. nibbles table ! cell self k) out i)
-    (λ table self out₀ i₀ out i. 16 - i)
+    (λ number two self table out₀ i₀ out i. Filled 16 (λ k. nibbles table ! cell self k) out i)
+    (λ number two self table out₀ i₀ out i. 16 - i)
+    (λ c κs. search fills)
     (λ c. search fills)
     (λ c. search fills)
-    (λ c κs. c .before .before .before .pre .all (c .before .before .loop .i) (search fills))
+    (λ c κs. c .before .before .before .before .pre .1 .all (c .before .before .loop .i) (search fills))
     (λ c. search fills)
     (λ c. search fills)
     (λ c. search fills)
     (λ c. search fills)
-    (λ c. ap (λ (l : List ℕ). record { at = l }) (whole (c .before .loop .inv) (c .loop-test .left))))
+    (λ c. rw (← c .before .before .box-word .ensures) (ap (λ (l : List ℕ). record { at = l }) (whole (c .before .loop .inv) (c .loop-test .left)))))
