@@ -6,20 +6,24 @@ use Rattle.words.specs.Lists.{_!_}
 use Rattle.cells.specs.Cells.{Cipher, cut}
 
 -- "Boxes, for inputs 0 to 15"
-abbrev pub boxes : List (List ℕ)
-boxes =
-    (0 ∷ 14 ∷ 2 ∷ 10 ∷ 9 ∷ 15 ∷ 8 ∷ 11 ∷ 6 ∷ 4 ∷ 3 ∷ 7 ∷ 13 ∷ 12 ∷ 1 ∷ 5 ∷ [])
-    ∷ (10 ∷ 13 ∷ 14 ∷ 6 ∷ 15 ∷ 7 ∷ 3 ∷ 5 ∷ 9 ∷ 8 ∷ 0 ∷ 12 ∷ 11 ∷ 1 ∷ 2 ∷ 4 ∷ [])
-    ∷ (11 ∷ 6 ∷ 8 ∷ 15 ∷ 12 ∷ 0 ∷ 9 ∷ 14 ∷ 3 ∷ 7 ∷ 4 ∷ 5 ∷ 13 ∷ 2 ∷ 1 ∷ 10 ∷ [])
-    ∷ []
+abbrev pub box0 : List ℕ
+box0 = 0 ∷ 14 ∷ 2 ∷ 10 ∷ 9 ∷ 15 ∷ 8 ∷ 11 ∷ 6 ∷ 4 ∷ 3 ∷ 7 ∷ 13 ∷ 12 ∷ 1 ∷ 5 ∷ []
 
--- "the inverse box": boxes 0 and 1 are "involutory" (document 000, 3.3), so the inverse of each is the box; box 2 has another (that each undoes its box: `Lawful.antt`)
+abbrev pub box1 : List ℕ
+box1 = 10 ∷ 13 ∷ 14 ∷ 6 ∷ 15 ∷ 7 ∷ 3 ∷ 5 ∷ 9 ∷ 8 ∷ 0 ∷ 12 ∷ 11 ∷ 1 ∷ 2 ∷ 4 ∷ []
+
+abbrev pub box2 : List ℕ
+box2 = 11 ∷ 6 ∷ 8 ∷ 15 ∷ 12 ∷ 0 ∷ 9 ∷ 14 ∷ 3 ∷ 7 ∷ 4 ∷ 5 ∷ 13 ∷ 2 ∷ 1 ∷ 10 ∷ []
+
+abbrev pub boxes : List (List ℕ)
+boxes = box0 ∷ box1 ∷ box2 ∷ []
+
+-- "the inverse box": boxes 0 and 1 are "involutory" (document 000, 3.3.3 and 3.3.4), so the inverse of each is the box itself; that of box 2 stands in 3.3.5 (that each undoes its box: `Lawful.antt`)
+abbrev pub unbox2 : List ℕ
+unbox2 = 5 ∷ 14 ∷ 13 ∷ 8 ∷ 10 ∷ 11 ∷ 1 ∷ 9 ∷ 2 ∷ 6 ∷ 15 ∷ 0 ∷ 4 ∷ 12 ∷ 7 ∷ 3 ∷ []
+
 abbrev pub unboxes : List (List ℕ)
-unboxes =
-    getD boxes 0 []
-    ∷ getD boxes 1 []
-    ∷ (5 ∷ 14 ∷ 13 ∷ 8 ∷ 10 ∷ 11 ∷ 1 ∷ 9 ∷ 2 ∷ 6 ∷ 15 ∷ 0 ∷ 4 ∷ 12 ∷ 7 ∷ 3 ∷ [])
-    ∷ []
+unboxes = box0 ∷ box1 ∷ unbox2 ∷ []
 
 -- "Rows of entries: - 1 2 1; 1 - 1 2; 2 1 - 1; 1 2 1 -"
 abbrev pub entries : List (List ℕ)

@@ -4,7 +4,7 @@ use Prim.Native.Nat.{ℕ, zero, suc, _*_, _/_, _%_, _^_}
 use lib.ListN.{getD}
 use Rattle.words.specs.Lists.{_!_, upto}
 use Rattle.cells.specs.Cells.{sixteen, entry, square, bitStepped, bitUnstepped}
-use Rattle.cells.specs.Qarma64.{boxes}
+use Rattle.cells.specs.Qarma64.{box0, box1}
 use Rattle.cells.specs.declared.Cells.{Cells}
 
 -- the cells of four rows
@@ -29,6 +29,6 @@ movedRow how row = upto 4 (λ y. bitMoved (how ! y) (row ! y))
 unfoldable pub nibbles : ℕ → List ℕ
 nibbles w = upto 16 (λ v. w / 2 ^ (4 * v) % 16)
 
--- box 0 or 1, which are their own inverses, or for box 2 the outputs t
-abbrev pub boxOr : List ℕ → ℕ → List ℕ
-boxOr t b = getD (getD boxes 0 [] ∷ getD boxes 1 [] ∷ t ∷ []) b []
+-- box 0 or 1, or for box 2 the outputs t
+abbrev pub boxOr : ℕ → List ℕ → List ℕ
+boxOr b t = getD (box0 ∷ box1 ∷ t ∷ []) b []

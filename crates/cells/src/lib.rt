@@ -44,24 +44,22 @@ fn mix_column(column: [u8; 4]) -> [u8; 4]
     out
 }
 
-// Box 0 as a word: the output for input v is cell v from the least significant. It is its own inverse.
+// The boxes as words: the output for input v is cell v from the least significant. Boxes 0 and 1 are their own inverses.
 const BOX_0: u64 = 0x51CD7346B8F9A2E0;
 
-// Box 1, its own inverse too.
 const BOX_1: u64 = 0x421BC089537F6EDA;
 
-// Box 2.
 const BOX_2: u64 = 0xA12D5473E90CF86B;
 
-// The inverse of box 2.
 const UNBOX_2: u64 = 0x37C40F6291BA8DE5;
 
-// The word of box 0 or 1, for both directions, or the word given for box 2.
-fn box_word(number: u64, two: u64) -> u64
+// The word of box 0 or 1, for both directions, or the word given for box 2. One `if` after the other, and no `match`, since that takes
+// the least flash (docs/DECISIONS.md).
+fn box_word(number: u64, word_2: u64) -> u64
     requires { ⌜ number < 3 ⌝ }
-    ensures { λ r. ⌜ nibbles r ≡ boxOr (nibbles two) number ⌝ }
+    ensures { λ r. ⌜ nibbles r ≡ boxOr number (nibbles word_2) ⌝ }
 {
-    let mut word = two;
+    let mut word = word_2;
     if number == 1 {
         word = BOX_1;
     }
@@ -196,11 +194,11 @@ impl Cells {
     }
 
     // Each cell looked up in box 0 or 1, or in the word given for box 2.
-    fn look(self, number: u64, two: u64) -> Cells
+    fn look(self, number: u64, word_2: u64) -> Cells
         requires { ⌜ (number < 3) × Below 4 self ⌝ }
-        ensures { λ r. ⌜ r ≡ looked (boxOr (nibbles two) number) self ⌝ }
+        ensures { λ r. ⌜ r ≡ looked (boxOr number (nibbles word_2)) self ⌝ }
     {
-        let table = box_word(number, two);
+        let table = box_word(number, word_2);
         let mut out = [0u8; 16];
         for i in 0..16 {
             out[i] = look_up(table, self.at[i]);

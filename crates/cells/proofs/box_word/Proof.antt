@@ -1,4 +1,4 @@
--- `box_word` meets its contract: the words of boxes 0 and 1 compute to their tables, and else there is box 2 alone.
+-- `box_word` meets its contract: the words of boxes 0 and 1 compute to their tables, and box 2 has the word given.
 use mathlib.Core.Path.{_≡_}
 use mathlib.Core.Logic.{⊎-elim}
 use native.Mathlib.Omega.{arith}

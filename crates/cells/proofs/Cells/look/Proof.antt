@@ -1,4 +1,4 @@
--- `Cells::look` meets its contract: the loop fills the sixteen cells that the table of the word has, which is the box's.
+-- `Cells::look` meets its contract: the word chosen has the outputs of the box, and the loop fills sixteen cells from it.
 use mathlib.Core.Path.{ap}
 use mathlib.Core.List.{List}
 use Prim.Native.Nat.{ℕ, _-_}
@@ -9,19 +9,33 @@ use Rattle.cells.proofs.Fill.{Filled, fills, whole}
 use Rattle.cells.proofs.Cells.look.Statement.{statement}
 use Rattle.cells.proofs.Cells.look.Tie as tie
 
-pub look-spec : {M : Type 1} → statement M
+abbrev Inv-loop : tie.InvT-loop
+Inv-loop number word₂ self table out₀ i₀ out i = Filled 16 (λ k. nibbles table ! cell self k) out i
+
+abbrev μ-loop : tie.MeasureT-loop
+μ-loop number word₂ self table out₀ i₀ out i = 16 - i
+
+-- each cell is below 16
+below : tie.Need-look-up-requires Inv-loop μ-loop
+below c κs = let entry = c .before .before .before .before in entry .pre .1 .all (c .before .before .loop .i) (search fills)
+
+-- all sixteen are looked up in the box
+filled : tie.Need-returns Inv-loop μ-loop
 unfolding looked
+filled c = rw (← c .before .before .box-word .ensures) (ap (λ (l : List ℕ). record { at = l }) (whole (c .before .loop .inv) (c .loop-test .left)))
+
+pub look-spec : {M : Type 1} → statement M
 look-spec =
     tie.close
     (tie.spec
-    (λ number two self table out₀ i₀ out i. Filled 16 (λ k. nibbles table ! cell self k) out i)
-    (λ number two self table out₀ i₀ out i. 16 - i)
+    Inv-loop
+    μ-loop
     (λ c κs. search fills)
     (λ c. search fills)
     (λ c. search fills)
-    (λ c κs. c .before .before .before .before .pre .1 .all (c .before .before .loop .i) (search fills))
+    below
     (λ c. search fills)
     (λ c. search fills)
     (λ c. search fills)
     (λ c. search fills)
-    (λ c. rw (← c .before .before .box-word .ensures) (ap (λ (l : List ℕ). record { at = l }) (whole (c .before .loop .inv) (c .loop-test .left)))))
+    filled)
