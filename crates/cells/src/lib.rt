@@ -53,8 +53,8 @@ const BOX_2: u64 = 0xA12D5473E90CF86B;
 
 const UNBOX_2: u64 = 0x37C40F6291BA8DE5;
 
-// The word of box 0 or 1, for both directions, or the word given for box 2. One `if` after the other, and no `match`, since that takes
-// the least flash (docs/DECISIONS.md).
+// The word of box 0 or 1, for both directions, or the word given for box 2. One `if` after the other, and no `match`: that takes
+// less flash on small processors, and in this order the others keep their code (docs/DECISIONS.md).
 fn box_word(number: u64, word_2: u64) -> u64
     requires { ⌜ number < 3 ⌝ }
     ensures { λ r. ⌜ nibbles r ≡ boxOr number (nibbles word_2) ⌝ }
