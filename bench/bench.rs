@@ -1,4 +1,4 @@
-//! The library through C beside the second program, one thread, box 1, r = 7.
+//! The library through C beside the second program, one thread, box 1, r = 7; QARMA-128 at r = 11.
 //!
 //!     bench                                 times both in one run
 //!     bench CALL library|second MADE COUNT  makes inputs and works on so many of them, for its
@@ -6,7 +6,7 @@
 //!
 //! Both are built for release: the second program at rustc's opt-level 3, the library as
 //! `rt staticlib` builds it. By both alike, an input is taken from a slice (a word for a block, bytes
-//! for a frame) and its answer written into its own place of an output slice, a block's as 8 bytes.
+//! for a frame) and its answer written into its own place of an output slice, a block's as 8 bytes or 16.
 //! The output is zeros when it is made and is not cleared between passes: each pass writes the same
 //! bytes of it. All memory is warm. An input's index is the tweak of a block and the serial of a frame.
 
@@ -14,6 +14,7 @@ use second::ffi;
 use second::frame::{self, Refusal};
 use second::opaque;
 use second::qarma::{self, Key, Schedule};
+use second::qarma128;
 use second::rng::Rng;
 use std::env::{self, consts::ARCH};
 use std::time::Instant;
@@ -35,12 +36,15 @@ const SEALED: usize = MESSAGE + 8;
 /// Bytes of a message with as many sealed bytes whose last block is filled.
 const FILLED: u64 = MESSAGE as u64 - 1;
 
-/// What is known at run time only. The settings are box and rounds.
+/// What is known at run time only. The settings are box and rounds; QARMA-128 has its own.
 struct Given {
     settings: (usize, usize),
     key: Key,
     schedule: Schedule,
     label: [u8; LABEL],
+    settings128: (usize, usize),
+    key128: qarma128::Key,
+    schedule128: qarma128::Schedule,
 }
 
 /// Works on one input, given its index, the input and the place of its answer.
@@ -81,6 +85,42 @@ const ENGINE: Call<u64> = Call {
         put(qarma::engine(b, r, given.schedule, tweak, block), place);
     },
     inputs: blocks,
+};
+
+const ENCIPHER128: Call<u128> = Call {
+    name: "kk128_encipher",
+    answer: 16,
+    library: |given, tweak, &block, place| {
+        let (b, r) = given.settings128;
+        ffi::encipher128(b as u64, r as u64, given.key128, tweak.into(), block, place);
+    },
+    second: |given, tweak, &block, place| {
+        let (b, r) = given.settings128;
+        let answer = qarma128::encipher(b, r, given.key128, tweak.into(), block);
+        place.copy_from_slice(&answer.to_be_bytes());
+    },
+    inputs: blocks128,
+};
+
+const ENGINE128: Call<u128> = Call {
+    name: "kk128_engine",
+    library: |given, tweak, &block, place| {
+        let (b, r) = given.settings128;
+        ffi::engine128(
+            b as u64,
+            r as u64,
+            given.schedule128,
+            tweak.into(),
+            block,
+            place,
+        );
+    },
+    second: |given, tweak, &block, place| {
+        let (b, r) = given.settings128;
+        let answer = qarma128::engine(b, r, given.schedule128, tweak.into(), block);
+        place.copy_from_slice(&answer.to_be_bytes());
+    },
+    ..ENCIPHER128
 };
 
 const SEAL: Call<[u8; MESSAGE]> = Call {
@@ -157,6 +197,16 @@ fn put(answer: u64, place: &mut [u8]) {
 fn blocks(_: &Given, count: usize) -> Vec<u64> {
     let mut rng = Rng::new(7);
     (0..count).map(|_| rng.word()).collect()
+}
+
+/// Random blocks of 128 bits.
+fn blocks128(_: &Given, count: usize) -> Vec<u128> {
+    let mut rng = Rng::new(9);
+    (0..count).map(|_| word128(&mut rng)).collect()
+}
+
+fn word128(rng: &mut Rng) -> u128 {
+    u128::from(rng.word()) << 64 | u128::from(rng.word())
 }
 
 /// Random messages.
@@ -239,7 +289,8 @@ impl<I> Call<I> {
 
         library_times.sort_by(f64::total_cmp);
         second_times.sort_by(f64::total_cmp);
-        print!("{:<12} {count:>6}", self.name);
+        let width = 19 - self.name.len();
+        print!("{}{count:>width$}", self.name);
         for at in [0, REPETITIONS / 2] {
             let (library, second) = (library_times[at], second_times[at]);
             print!("  {library:>8.1} {second:>8.1} {:>6.2}", second / library);
@@ -272,6 +323,10 @@ fn times(given: &Given) {
         ENCIPHER.row(given, count, BLOCKS);
         ENGINE.row(given, count, BLOCKS);
     }
+    for count in [BLOCKS, 8] {
+        ENCIPHER128.row(given, count, BLOCKS);
+        ENGINE128.row(given, count, BLOCKS);
+    }
     println!();
     println!("ns a frame, message of {MESSAGE} bytes and label of {LABEL}");
     println!("                    ------- best ---------  ------ median --------");
@@ -295,11 +350,18 @@ fn main() {
         k0: rng.word(),
     });
     let label = rng.bytes(LABEL).try_into().expect("as many bytes");
+    let key128 = opaque(Key {
+        w0: word128(&mut rng),
+        k0: word128(&mut rng),
+    });
     let given = Given {
         settings: opaque((1, 7)),
         key,
         schedule: opaque(qarma::schedule(key)),
         label: opaque(label),
+        settings128: opaque((1, 11)),
+        key128,
+        schedule128: opaque(qarma128::schedule(key128)),
     };
     println!("second program: {} for {ARCH}", env!("RUSTC_VERSION"));
     let words: Vec<String> = env::args().skip(1).collect();
@@ -308,6 +370,8 @@ fn main() {
         [] => times(&given),
         ["kk_encipher", a, b, c] => ENCIPHER.work(&given, [a, b, c]),
         ["kk_engine", a, b, c] => ENGINE.work(&given, [a, b, c]),
+        ["kk128_encipher", a, b, c] => ENCIPHER128.work(&given, [a, b, c]),
+        ["kk128_engine", a, b, c] => ENGINE128.work(&given, [a, b, c]),
         ["kk_seal", a, b, c] => SEAL.work(&given, [a, b, c]),
         ["kk_open", a, b, c] => OPEN.work(&given, [a, b, c]),
         _ => panic!("none or CALL library|second MADE COUNT"),

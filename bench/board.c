@@ -2,6 +2,7 @@
  * Calls the library so many times, for bench/processors to count the instructions.
  *
  *   board block COUNT    enciphers a block, box 1 and r = 7
+ *   board 128 COUNT      enciphers a block of 128 bits, box 1 and r = 11
  *   board line COUNT     opens a line of a message of 24 bytes and a label of 6
  */
 
@@ -28,6 +29,18 @@ static int blocks(int count)
     return 0;
 }
 
+static int blocks128(int count)
+{
+    uint8_t out[KK128_BLOCK_BYTES];
+
+    for (; count > 0; count--) {
+        if (kk128_encipher(1, 11, W0, K0, K0, W0, TWEAK, 0, 0, 0, out, sizeof out) != KK128_BLOCK_BYTES) {
+            return 1;
+        }
+    }
+    return 0;
+}
+
 static int lines(int count)
 {
     static const char profile[] = "factory: push 12 hold 50";
@@ -43,8 +56,15 @@ static int lines(int count)
 
 int main(int argc, char **argv)
 {
-    if (argc != 3 || (argv[1][0] != 'b' && argv[1][0] != 'l')) {
-        return 2;
+    int count = argc == 3 ? argv[2][0] - '0' : 0;
+
+    switch (argc == 3 ? argv[1][0] : 0) {
+    case 'b':
+        return blocks(count);
+    case '1':
+        return blocks128(count);
+    case 'l':
+        return lines(count);
     }
-    return argv[1][0] == 'b' ? blocks(argv[2][0] - '0') : lines(argv[2][0] - '0');
+    return 2;
 }

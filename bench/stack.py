@@ -228,9 +228,9 @@ class Archive:
 def main():
     try:
         archive = Archive(sys.stdin.read().splitlines())
-        names = sorted(name for name in archive.names if name.startswith("kk_"))
+        names = sorted(name for name in archive.names if re.match(r"kk\d*_", name))
         if not names:
-            raise Unbounded("no function has a name with kk_")
+            raise Unbounded("no function has a name with kk_ or kk128_")
         needs = [(name, archive.need(archive.names[name])) for name in names]
     except Unbounded as why:
         sys.exit(f"stack.py: {why}")

@@ -1,6 +1,6 @@
 /*
  * kkurimyeot.h - the QARMA-64 block engine for C, frames sealed and opened with
- * it, and frame lines read, written and opened.
+ * it, and frame lines read, written and opened; and the QARMA-128 block engine.
  *
  * This header is the manual. Link with libkkurimyeot.a; once both are installed,
  * `pkg-config --cflags --libs kkurimyeot` prints what the compiler has to be told.
@@ -9,18 +9,21 @@
  *
  * Words
  *
- *   cell      4 bits. Sixteen cells make a word; cell 0 is the most significant.
- *   block     The 64 bits that are enciphered or deciphered in one call.
- *   tweak     64 bits beside the key. Each tweak gives another cipher. It need
- *             not be secret.
+ *   cell      4 bits; 8 in the 128-bit cipher. Sixteen cells make a word; cell 0 is
+ *             the most significant.
+ *   block     The word that is enciphered or deciphered in one call: 64 bits, or
+ *             128 by the calls that begin with kk128_.
+ *   tweak     A word beside the key. Each tweak gives another cipher. It need not
+ *             be secret.
  *   key       Two words: the outer word w0 and the core word k0. Where a key is
- *             written in 16 bytes or 32 digits, w0 comes first.
+ *             written as bytes or digits, w0 comes first.
  *   schedule  The four words that the engine runs on: the outer words w0 and
  *             w1, the core word k0 and the centre word k1.
  *   turn      To turn a schedule is to make the one under which the engine
  *             undoes what it does under the first.
  *   box       The number of a substitution table for cells: 0, 1 or 2.
- *   rounds    The number r of the paper, 3 to 8. The engine runs 2r + 2 rounds.
+ *   rounds    The number r of the paper, 3 to 8, or 3 to 11 in the 128-bit cipher.
+ *             The engine runs 2r + 2 rounds.
  *   message   The bytes that are kept secret: 0 to KK_MESSAGE_MAX.
  *   label     Bytes that travel openly beside the message and that the tag also
  *             covers: 0 to KK_LABEL_MAX.
@@ -41,7 +44,7 @@
  *   refusal   The number that says why a call did nothing.
  *
  * The paper is Roberto Avanzi, "The QARMA Block Cipher Family". It chooses
- * box 1 and r = 7, and frames are sealed with these.
+ * box 1 and r = 7, and frames are sealed with these. For 128 bits it chooses r = 11.
  *
  *
  * Lines
@@ -89,8 +92,11 @@
  * An answer is written to memory that the caller lends: a pointer `out` and the
  * number of bytes there, `out_length`. All `out_length` bytes must be the
  * caller's to write, and none of them may belong to the label, the message, the
- * sealed bytes or the line. An answer made of words has 8 bytes for each, the
- * most significant first.
+ * sealed bytes or the line. An answer made of words has 8 bytes for each word, or
+ * 16 in the 128-bit cipher, the most significant first.
+ *
+ * A value of 128 bits is passed as two numbers, the high one first. In an answer
+ * kk_word(out) is then its high number, kk_word(out + KK_WORD_BYTES) its low one.
  *
  * A call that succeeds writes the first bytes of the lent memory, as many as the
  * function says. Every byte past them stays as it was. A call that is refused
@@ -187,10 +193,11 @@
  * How long an instruction takes is the processor's matter. The archives have no
  * division. They multiply only where the digits of a line are written, which are
  * public, so a multiplication that ends early for small numbers tells nothing. They
- * do shift by secrets: a box is looked up by a shift by a cell. A core that shifts
- * place by place (SERV, or PicoRV32 without its barrel shifter) therefore tells
+ * do shift by secrets: a box of 4 bits is looked up by a shift by a cell. (The boxes
+ * of the 128-bit cipher are gates, which shift by fixed numbers only.) A core that
+ * shifts place by place (SERV, or PicoRV32 without its barrel shifter) therefore tells
  * something of keys and blocks by its time. Of Cortex-M, aarch64 and x86-64 we know
- * none that does; newer ones promise it only in a mode that the system sets
+ * none that does so; newer ones promise it only in a mode that the system sets
  * (PSTATE.DIT, DOITM). docs/PERFORMANCE.md says where such instructions are.
  *
  *
@@ -250,6 +257,12 @@ typedef size_t kk_size;
 #define KK_SCHEDULE_BYTES 32
 #define KK_TAG_BYTES 8
 
+/* Of the 128-bit cipher. KK_BOX_MAX and KK_ROUNDS_MIN are for both. */
+#define KK128_ROUNDS_MAX 11
+#define KK128_WORD_BYTES 16
+#define KK128_BLOCK_BYTES 16
+#define KK128_SCHEDULE_BYTES 64
+
 /* The number of sealed bytes for a message of a length up to KK_MESSAGE_MAX: the
    length rounded up to whole blocks, and the tag. A constant if the length is. */
 #define KK_SEALED_BYTES(message_length)                          \
@@ -301,7 +314,8 @@ static inline uint32_t kk_count(uint64_t answer)
     return (uint32_t)answer;
 }
 
-/* The word that stands in KK_WORD_BYTES bytes, the most significant first. */
+/* The number that stands in KK_WORD_BYTES bytes, the most significant first: a word,
+   or one of the two numbers of a value of 128 bits. */
 static inline uint64_t kk_word(const uint8_t *bytes)
 {
     uint64_t word = 0;
@@ -482,6 +496,84 @@ uint64_t kk_open_line(uint64_t w0, uint64_t k0,
                       const uint8_t *KK_RESTRICT line, kk_size line_length,
                       uint8_t *KK_RESTRICT out, kk_size out_length);
 
+/*
+ * The 128-bit cipher, QARMA-128. Each word, tweak and block is two numbers, the
+ * high one first, and 16 bytes of an answer. The paper chooses box 1 and r = 11.
+ * Frames and lines are not made with it.
+ */
+
+/*
+ * The schedule of the key (w0, k0): w0; w1, which is w0 rotated right by 1, xor
+ * w0 shifted right by 127, all 128 bits as one; k0; and k1, which is k0.
+ *
+ * Refusals: KK_REFUSED_ROOM if out_length is below KK128_SCHEDULE_BYTES.
+ * Writes w0, w1, k0, k1 to the first KK128_SCHEDULE_BYTES bytes of out.
+ */
+uint64_t kk128_schedule(uint64_t w0_high, uint64_t w0_low,
+                        uint64_t k0_high, uint64_t k0_low,
+                        uint8_t *KK_RESTRICT out, kk_size out_length);
+
+/*
+ * The schedule (w0, w1, k0, k1) turned: w1, w0, k0 xor
+ * 243F6A8885A308D313198A2E03707344, and the mix of k1 (the paper's Q times k1).
+ * Turning twice gives the first schedule back.
+ *
+ * Refusals: KK_REFUSED_ROOM if out_length is below KK128_SCHEDULE_BYTES.
+ * Writes the four words in that order to the first KK128_SCHEDULE_BYTES bytes of
+ * out: eight numbers for kk128_engine(), each by kk_word().
+ */
+uint64_t kk128_turn(uint64_t w0_high, uint64_t w0_low,
+                    uint64_t w1_high, uint64_t w1_low,
+                    uint64_t k0_high, uint64_t k0_low,
+                    uint64_t k1_high, uint64_t k1_low,
+                    uint8_t *KK_RESTRICT out, kk_size out_length);
+
+/*
+ * The engine's answer for a block under a tweak and four free words. Under the
+ * turned schedule, with the same box, rounds and tweak, it undoes this.
+ *
+ * Refusals, in this order:
+ *   KK_REFUSED_SETTINGS if box is above KK_BOX_MAX, or rounds is below
+ *                       KK_ROUNDS_MIN or above KK128_ROUNDS_MAX;
+ *   KK_REFUSED_ROOM     if out_length is below KK128_BLOCK_BYTES.
+ * Writes the answer to the first KK128_BLOCK_BYTES bytes of out.
+ */
+uint64_t kk128_engine(uint64_t box, uint64_t rounds,
+                      uint64_t w0_high, uint64_t w0_low,
+                      uint64_t w1_high, uint64_t w1_low,
+                      uint64_t k0_high, uint64_t k0_low,
+                      uint64_t k1_high, uint64_t k1_low,
+                      uint64_t tweak_high, uint64_t tweak_low,
+                      uint64_t block_high, uint64_t block_low,
+                      uint8_t *KK_RESTRICT out, kk_size out_length);
+
+/*
+ * The block enciphered under a tweak and the key (w0, k0): the engine under the
+ * schedule of the key.
+ *
+ * Refusals and writing: as kk128_engine().
+ */
+uint64_t kk128_encipher(uint64_t box, uint64_t rounds,
+                        uint64_t w0_high, uint64_t w0_low,
+                        uint64_t k0_high, uint64_t k0_low,
+                        uint64_t tweak_high, uint64_t tweak_low,
+                        uint64_t block_high, uint64_t block_low,
+                        uint8_t *KK_RESTRICT out, kk_size out_length);
+
+/*
+ * The block deciphered under a tweak and the key (w0, k0): the engine under the
+ * turned schedule of the key. With the same box, rounds, key and tweak it undoes
+ * kk128_encipher(). It cannot tell whether the key or the tweak was the right one.
+ *
+ * Refusals and writing: as kk128_engine().
+ */
+uint64_t kk128_decipher(uint64_t box, uint64_t rounds,
+                        uint64_t w0_high, uint64_t w0_low,
+                        uint64_t k0_high, uint64_t k0_low,
+                        uint64_t tweak_high, uint64_t tweak_low,
+                        uint64_t block_high, uint64_t block_low,
+                        uint8_t *KK_RESTRICT out, kk_size out_length);
+
 #ifdef KK_EXAMPLE
 /* Enciphers a block and deciphers it again. Gives 1 if the block came back. */
 static inline int kk_example(uint64_t w0, uint64_t k0,
@@ -500,6 +592,26 @@ static inline int kk_example(uint64_t w0, uint64_t k0,
         return 0; /* out still has the enciphered block */
     }
     return kk_word(out) == block;
+}
+
+/* Enciphers a block of 16 bytes in place, as a memory part does, under a key of 32
+   bytes, w0 and then k0, with the number of the block as the tweak. Gives 1 if the
+   block is enciphered. kk128_decipher() in its place brings the block back. Whoever
+   reads the memory sees when the same block is written to the same place again. */
+static inline int kk128_example(const uint8_t key[2 * KK128_WORD_BYTES],
+                                uint64_t number,
+                                uint8_t block[KK128_BLOCK_BYTES])
+{
+    uint64_t answer;
+
+    answer = kk128_encipher(1, 11,
+                            kk_word(key), kk_word(key + KK_WORD_BYTES),
+                            kk_word(key + 2 * KK_WORD_BYTES),
+                            kk_word(key + 3 * KK_WORD_BYTES),
+                            0, number,
+                            kk_word(block), kk_word(block + KK_WORD_BYTES),
+                            block, KK128_BLOCK_BYTES);
+    return kk_refusal(answer) == KK_NOT_REFUSED;
 }
 
 /* Seals a reading of up to 24 bytes, with the number of its lane as the label,

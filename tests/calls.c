@@ -20,6 +20,17 @@
 #define CIPHERTEXT UINT64_C(0xEDF67FF370A483F2)
 
 /*
+ * Of QARMA-128. A value of 128 bits is two numbers, the high one first. The ciphertext is the one that the second program gives
+ * (tests/second/qarma128.rs), box 1, r = 11.
+ */
+#define ALPHA128 UINT64_C(0x243F6A8885A308D3), UINT64_C(0x13198A2E03707344)
+#define PLAIN128 PLAIN, TWEAK
+#define TWEAK128 TWEAK, PLAIN
+#define W0_128 W0, K0
+#define K0_128 K0, W0
+#define CIPHERTEXT128 UINT64_C(0xAC52BE9C63000116), UINT64_C(0x4E977E9173C82C1B)
+
+/*
  * Frames under the key (W0, K0). The sealed bytes are those that the second
  * program gives (tests/second/frame.rs).
  */
@@ -99,6 +110,25 @@ static void wrote_schedule(uint64_t answer, uint64_t w0, uint64_t w1,
     check(untouched_from(KK_SCHEDULE_BYTES), what);
 }
 
+/* The lent memory begins with these numbers, and is as filled after them. */
+static void wrote_numbers(uint64_t answer, const uint64_t *numbers, size_t count, const char *what)
+{
+    size_t i;
+
+    check(answer == count * KK_WORD_BYTES, what);
+    for (i = 0; i < count; i++) {
+        check(kk_word(out + i * KK_WORD_BYTES) == numbers[i], what);
+    }
+    check(untouched_from(count * KK_WORD_BYTES), what);
+}
+
+static void wrote_block128(uint64_t answer, uint64_t high, uint64_t low, const char *what)
+{
+    const uint64_t block[] = { high, low };
+
+    wrote_numbers(answer, block, 2, what);
+}
+
 static void wrote_bytes(uint64_t answer, const uint8_t *bytes, size_t length,
                         const char *what)
 {
@@ -120,6 +150,166 @@ static void refused_at(uint64_t answer, unsigned refusal, size_t place, const ch
 static void refused(uint64_t answer, unsigned refusal, const char *what)
 {
     refused_at(answer, refusal, 0, what);
+}
+
+/* A schedule of QARMA-128. */
+struct schedule128 {
+    uint64_t numbers[8];
+};
+
+/* The one that a call has written. */
+static struct schedule128 schedule128(uint64_t answer)
+{
+    struct schedule128 schedule;
+    size_t i;
+
+    check(answer == KK128_SCHEDULE_BYTES, "a schedule");
+    for (i = 0; i < 8; i++) {
+        schedule.numbers[i] = kk_word(out + i * KK_WORD_BYTES);
+    }
+    return schedule;
+}
+
+/* kk128_turn() of a schedule. */
+static struct schedule128 turned128(struct schedule128 schedule)
+{
+    const uint64_t *n = schedule.numbers;
+
+    return schedule128(kk128_turn(n[0], n[1], n[2], n[3], n[4], n[5], n[6], n[7], lend(), sizeof out));
+}
+
+/* kk128_engine() under a schedule and the tweak above. */
+static uint64_t engine128(uint64_t box, uint64_t rounds, struct schedule128 schedule,
+                          uint64_t high, uint64_t low, uint8_t *lent, size_t length)
+{
+    const uint64_t *n = schedule.numbers;
+
+    return kk128_engine(box, rounds, n[0], n[1], n[2], n[3], n[4], n[5], n[6], n[7],
+                        TWEAK128, high, low, lent, length);
+}
+
+/* The five calls of QARMA-128 on known values, each also in just the room that it needs. */
+static void known_128(void)
+{
+    static const uint64_t schedule[] = { 0, 1, UINT64_C(1) << 63, 0, 2, 3, 2, 3 };
+    static const uint64_t zeros_turned[] = { 0, 0, 0, 0, ALPHA128, 0, 0 };
+    /* A bit of cell 0 is mixed into cells 4, 8 and 12. */
+    static const uint64_t turned[] = { 9, 10, 5, 6, 0, 0, 0x20000000, UINT64_C(0x1000000002000000) };
+    struct schedule128 s;
+    uint64_t answer;
+
+    answer = kk128_schedule(0, 1, 2, 3, lend(), sizeof out);
+    wrote_numbers(answer, schedule, 8, "kk128_schedule");
+    answer = kk128_schedule(0, 1, 2, 3, lend(), KK128_SCHEDULE_BYTES);
+    wrote_numbers(answer, schedule, 8, "kk128_schedule, exact room");
+
+    answer = kk128_turn(0, 0, 0, 0, 0, 0, 0, 0, lend(), sizeof out);
+    wrote_numbers(answer, zeros_turned, 8, "kk128_turn of zeros");
+    answer = kk128_turn(5, 6, 9, 10, ALPHA128, UINT64_C(1) << 56, 0, lend(), KK128_SCHEDULE_BYTES);
+    wrote_numbers(answer, turned, 8, "kk128_turn, exact room");
+
+    s = schedule128(kk128_schedule(W0_128, K0_128, lend(), sizeof out));
+    answer = engine128(1, KK128_ROUNDS_MAX, s, PLAIN128, lend(), sizeof out);
+    wrote_block128(answer, CIPHERTEXT128, "kk128_engine");
+    answer = engine128(1, KK128_ROUNDS_MAX, s, PLAIN128, lend(), KK128_BLOCK_BYTES);
+    wrote_block128(answer, CIPHERTEXT128, "kk128_engine, exact room");
+    s = turned128(s);
+    answer = engine128(1, KK128_ROUNDS_MAX, s, CIPHERTEXT128, lend(), sizeof out);
+    wrote_block128(answer, PLAIN128, "kk128_engine, turned");
+
+    answer = kk128_encipher(1, KK128_ROUNDS_MAX, W0_128, K0_128, TWEAK128, PLAIN128, lend(), KK128_BLOCK_BYTES);
+    wrote_block128(answer, CIPHERTEXT128, "kk128_encipher, exact room");
+    answer = kk128_decipher(1, KK128_ROUNDS_MAX, W0_128, K0_128, TWEAK128, CIPHERTEXT128, lend(), KK128_BLOCK_BYTES);
+    wrote_block128(answer, PLAIN128, "kk128_decipher, exact room");
+}
+
+/* kk128_engine() under one schedule, and then under the one that undoes it. */
+static void engine128_undone(uint64_t box, uint64_t rounds, struct schedule128 one,
+                             struct schedule128 other, const char *what)
+{
+    uint64_t high, low;
+
+    engine128(box, rounds, one, PLAIN128, lend(), sizeof out);
+    high = kk_word(out);
+    low = kk_word(out + KK_WORD_BYTES);
+    wrote_block128(engine128(box, rounds, other, high, low, lend(), sizeof out), PLAIN128, what);
+}
+
+/* With every box and all rounds: kk128_engine() under the turned schedule undoes it under a
+   free one, both ways, and kk128_decipher() undoes kk128_encipher(). */
+static void undone_128(void)
+{
+    static const struct schedule128 free_words = { { PLAIN128, W0_128, TWEAK128, K0_128 } };
+    const struct schedule128 turned = turned128(free_words);
+    const struct schedule128 twice = turned128(turned);
+    uint64_t box, rounds, answer, high, low;
+
+    check(memcmp(&twice, &free_words, sizeof twice) == 0, "kk128_turn, twice");
+    for (box = 0; box <= KK_BOX_MAX; box++) {
+        for (rounds = KK_ROUNDS_MIN; rounds <= KK128_ROUNDS_MAX; rounds++) {
+            engine128_undone(box, rounds, free_words, turned, "kk128_engine, then turned");
+            engine128_undone(box, rounds, turned, free_words, "kk128_engine turned, then not");
+
+            kk128_encipher(box, rounds, W0_128, K0_128, TWEAK128, PLAIN128, lend(), sizeof out);
+            high = kk_word(out);
+            low = kk_word(out + KK_WORD_BYTES);
+            answer = kk128_decipher(box, rounds, W0_128, K0_128, TWEAK128, high, low, lend(), sizeof out);
+            wrote_block128(answer, PLAIN128, "kk128_decipher after kk128_encipher");
+        }
+    }
+}
+
+/* One of the three calls of QARMA-128 that take box and rounds. */
+static uint64_t with_settings128(int call, uint64_t box, uint64_t rounds, uint8_t *lent, size_t length)
+{
+    static const struct schedule128 zeros;
+
+    switch (call) {
+    case 0:
+        return engine128(box, rounds, zeros, PLAIN128, lent, length);
+    case 1:
+        return kk128_encipher(box, rounds, W0_128, K0_128, TWEAK128, PLAIN128, lent, length);
+    default:
+        return kk128_decipher(box, rounds, W0_128, K0_128, TWEAK128, PLAIN128, lent, length);
+    }
+}
+
+/* The refusals of QARMA-128 and their order: settings before room. */
+static void refused_128(void)
+{
+    static const uint64_t far = UINT64_C(1) << 32;
+    int call;
+
+    refused(kk128_schedule(0, 1, 2, 3, lend(), KK128_SCHEDULE_BYTES - 1), KK_REFUSED_ROOM,
+            "kk128_schedule, short");
+    refused(kk128_turn(0, 0, 0, 0, 0, 0, 0, 0, lend(), KK128_SCHEDULE_BYTES - 1), KK_REFUSED_ROOM,
+            "kk128_turn, short");
+    for (call = 0; call < 3; call++) {
+        refused(with_settings128(call, KK_BOX_MAX + 1, 9, lend(), sizeof out),
+                KK_REFUSED_SETTINGS, "box 3 and 9 rounds of 128 bits");
+        refused(with_settings128(call, 1, KK_ROUNDS_MIN - 1, lend(), sizeof out),
+                KK_REFUSED_SETTINGS, "2 rounds of 128 bits");
+        refused(with_settings128(call, 1, KK128_ROUNDS_MAX + 1, lend(), sizeof out),
+                KK_REFUSED_SETTINGS, "12 rounds of 128 bits");
+        refused(with_settings128(call, far + 1, KK128_ROUNDS_MAX, lend(), sizeof out),
+                KK_REFUSED_SETTINGS, "a box right in 32 bits, of 128 bits");
+        refused(with_settings128(call, 1, far + KK128_ROUNDS_MAX, lend(), sizeof out),
+                KK_REFUSED_SETTINGS, "rounds right in 32 bits, of 128 bits");
+        refused(with_settings128(call, KK_BOX_MAX + 1, KK128_ROUNDS_MAX + 1, lend(), 0),
+                KK_REFUSED_SETTINGS, "box 3, 12 rounds of 128 bits and short");
+        refused(with_settings128(call, 1, KK128_ROUNDS_MAX, lend(), KK128_BLOCK_BYTES - 1),
+                KK_REFUSED_ROOM, "short for 128 bits");
+        refused(with_settings128(call, 1, KK128_ROUNDS_MAX, lend(), KK_BLOCK_BYTES),
+                KK_REFUSED_ROOM, "room for half of 128 bits");
+    }
+
+    /* No memory at all, by a null pointer. */
+    lend();
+    refused(kk128_schedule(0, 1, 2, 3, NULL, 0), KK_REFUSED_ROOM, "kk128_schedule, null");
+    refused(kk128_turn(0, 0, 0, 0, 0, 0, 0, 0, NULL, 0), KK_REFUSED_ROOM, "kk128_turn, null");
+    for (call = 0; call < 3; call++) {
+        refused(with_settings128(call, 1, KK128_ROUNDS_MAX, NULL, 0), KK_REFUSED_ROOM, "128 bits, null");
+    }
 }
 
 /* kk_seal() under the key above. */
@@ -702,6 +892,24 @@ static void no_line_damaged(void)
     }
 }
 
+/* The header's example of QARMA-128 enciphers a block where it stands, and deciphering it brings it back. */
+static void enciphers_128_by_example(void)
+{
+    static const uint8_t key[2 * KK128_WORD_BYTES] = {
+        0x84, 0xBE, 0x85, 0xCE, 0x98, 0x04, 0xE9, 0x4B, 0xEC, 0x28, 0x02, 0xD4, 0xE0, 0xA4, 0x88, 0xE9,
+        0xEC, 0x28, 0x02, 0xD4, 0xE0, 0xA4, 0x88, 0xE9, 0x84, 0xBE, 0x85, 0xCE, 0x98, 0x04, 0xE9, 0x4B,
+    };
+    uint8_t block[KK128_BLOCK_BYTES] = "a block of text";
+    uint8_t before[KK128_BLOCK_BYTES];
+
+    memcpy(before, block, sizeof block);
+    check(kk128_example(key, 5, block), "the header's example of 128 bits");
+    check(memcmp(before, block, sizeof block) != 0, "an enciphered block");
+    check(kk128_decipher(1, 11, W0_128, K0_128, 0, 5, kk_word(block), kk_word(block + KK_WORD_BYTES), lend(), sizeof out)
+              == KK128_BLOCK_BYTES, "a block of the header's example taken");
+    check(memcmp(before, out, sizeof before) == 0, "a block of the header's example deciphered");
+}
+
 /* The header's example of sealing: the last serial is used once and no more. */
 static void seals_by_example(void)
 {
@@ -818,6 +1026,10 @@ int main(void)
     refused(kk_encipher(1, 7, W0, K0, TWEAK, PLAIN, NULL, 0), KK_REFUSED_ROOM, "kk_encipher, null");
     refused(kk_decipher(1, 7, W0, K0, TWEAK, PLAIN, NULL, 0), KK_REFUSED_ROOM, "kk_decipher, null");
 
+    known_128();
+    undone_128();
+    refused_128();
+
     seals();
     opens();
     opens_not();
@@ -833,6 +1045,7 @@ int main(void)
     names_refusals();
 
     check(kk_example(W0, K0, TWEAK, PLAIN), "the header's example");
+    enciphers_128_by_example();
     seals_by_example();
     opens_by_example();
     lines_by_example();

@@ -4,7 +4,7 @@ use crate::cases::Cases;
 use crate::damage::damage_line;
 use crate::frames::{self, Frame};
 use crate::numbers;
-use second::calls::blocks::{Function, Input};
+use second::calls::blocks::{Function, Input, Word};
 use second::calls::frames::{OpenCall, SealCall};
 use second::calls::lines::{opening, reading, writing, READ};
 use second::harness::{Call, Outcome, Part, Tally};
@@ -130,14 +130,14 @@ impl Abuse {
         (frame, line)
     }
 
-    pub fn block(&mut self, function: Function) -> u64 {
+    pub fn block<W: Word>(&mut self, function: Function) -> u64 {
         let settings = (
             numbers::box_number(&mut self.rng),
-            numbers::rounds(&mut self.rng),
+            numbers::rounds(&mut self.rng, W::ROUNDS),
         );
-        let words = array::from_fn(|_| numbers::word(&mut self.rng));
+        let words = array::from_fn(|_| numbers::word::<W>(&mut self.rng));
         let call = function.of(Input::new(settings, words));
-        self.run(&call, function.need(), &[])
+        self.run(&call, call.need(), &[])
     }
 
     /// Hands what there is to seal to a call, and gives what it returned.

@@ -27,17 +27,22 @@ const SEED: u64 = 0x6B6B_7572_696D_7965;
 /// which gives what was returned.
 type Abused = (&'static str, &'static [u8], fn(&mut Abuse) -> u64);
 
-const FUNCTIONS: [Abused; 10] = [
-    ("kk_schedule", &[5], |abuse| abuse.block(Schedule)),
-    ("kk_turn", &[5], |abuse| abuse.block(Turn)),
-    ("kk_engine", &[1, 5], |abuse| abuse.block(Engine)),
-    ("kk_encipher", &[1, 5], |abuse| abuse.block(Encipher)),
-    ("kk_decipher", &[1, 5], |abuse| abuse.block(Decipher)),
+const FUNCTIONS: [Abused; 15] = [
+    ("kk_schedule", &[5], |a| a.block::<u64>(Schedule)),
+    ("kk_turn", &[5], |a| a.block::<u64>(Turn)),
+    ("kk_engine", &[1, 5], |a| a.block::<u64>(Engine)),
+    ("kk_encipher", &[1, 5], |a| a.block::<u64>(Encipher)),
+    ("kk_decipher", &[1, 5], |a| a.block::<u64>(Decipher)),
     ("kk_seal", &[2, 3, 5], Abuse::seal),
     ("kk_open", &[2, 3, 4, 5, 6], Abuse::open),
     ("kk_read_line", &[7, 5], Abuse::read_line),
     ("kk_write_line", &[2, 3, 5], Abuse::write_line),
     ("kk_open_line", &[7, 5, 6], Abuse::open_line),
+    ("kk128_schedule", &[5], |a| a.block::<u128>(Schedule)),
+    ("kk128_turn", &[5], |a| a.block::<u128>(Turn)),
+    ("kk128_engine", &[1, 5], |a| a.block::<u128>(Engine)),
+    ("kk128_encipher", &[1, 5], |a| a.block::<u128>(Encipher)),
+    ("kk128_decipher", &[1, 5], |a| a.block::<u128>(Decipher)),
 ];
 
 /// How often each refusal came, and at 0 how many calls were taken.
@@ -46,7 +51,7 @@ type Came = [u64; 256];
 /// Prints how often each answer came.
 fn print_counts(name: &str, came: &Came) {
     let calls: u64 = came.iter().sum();
-    print!("{name:13} {calls:7} calls: {} taken", came[0]);
+    print!("{name:14} {calls:7} calls: {} taken", came[0]);
     for (refusal, count) in (1..).zip(&came[1..]).filter(|(_, count)| **count > 0) {
         print!(", {count} refused {refusal}");
     }

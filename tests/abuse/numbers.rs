@@ -1,7 +1,10 @@
 //! Random numbers, many of them about the limits of document 01.
 
+use second::calls::blocks::Word;
 use second::frame::{LABEL_MAX, MESSAGE_MAX, SERIAL_MAX};
 use second::rng::Rng;
+use std::mem::size_of;
+use std::ops::RangeInclusive;
 
 /// One chance in so many.
 pub fn one_in(rng: &mut Rng, chances: usize) -> bool {
@@ -9,14 +12,14 @@ pub fn one_in(rng: &mut Rng, chances: usize) -> bool {
 }
 
 /// A word of a key, a schedule, a tweak or a block: zeros, ones, one bit among them, or any.
-pub fn word(rng: &mut Rng) -> u64 {
-    let bit = 1 << rng.below(64);
+pub fn word<W: Word>(rng: &mut Rng) -> W {
+    let bit = W::from(1) << rng.below(8 * size_of::<W>());
     match rng.below(8) {
-        0 => 0,
-        1 => u64::MAX,
+        0 => W::from(0),
+        1 => !W::from(0),
         2 => bit,
         3 => !bit,
-        _ => rng.word(),
+        _ => W::of(|| rng.word()),
     }
 }
 
@@ -50,12 +53,14 @@ pub fn box_number(rng: &mut Rng) -> u64 {
     }
 }
 
-pub fn rounds(rng: &mut Rng) -> u64 {
+/// Rounds about the limits of this size, or within it.
+pub fn rounds(rng: &mut Rng, size: RangeInclusive<u64>) -> u64 {
+    let (least, most) = size.into_inner();
     if one_in(rng, 6) {
-        let limit = rng.one_of(&[3, 8]);
+        let limit = rng.one_of(&[least, most]);
         about(rng, limit)
     } else {
-        3 + rng.below(6) as u64
+        least + rng.below((most - least + 1) as usize) as u64
     }
 }
 

@@ -6,7 +6,7 @@
  * A case is
  *
  *   1 byte   which call, in the order of kkurimyeot.h
- *   8 each   its numbers
+ *   8 each   its numbers, two for a value of 128 bits
  *   4 + n    each slice that is read: its length, and its bytes
  *   4        the length of the lent memory
  *   8        the number that is returned
@@ -37,9 +37,15 @@
     CALL(kk_open, "sspp", "pp", 1, n[0], n[1], n[2], n[3], SLICE(0), SLICE(1))                        \
     CALL(kk_read_line, "", "p", 0, SLICE(0))                                                          \
     CALL(kk_write_line, "ssp", "ps", 0, n[0], n[1], n[2], SLICE(0), SLICE(1))                         \
-    CALL(kk_open_line, "ss", "p", 1, n[0], n[1], SLICE(0))
+    CALL(kk_open_line, "ss", "p", 1, n[0], n[1], SLICE(0))                                            \
+    CALL(kk128_schedule, "ssss", "", 0, TWO(0), TWO(2))                                             \
+    CALL(kk128_turn, "ssssssss", "", 0, TWO(0), TWO(2), TWO(4), TWO(6))                           \
+    CALL(kk128_engine, "ppssssssssssss", "", 0, n[0], n[1], TWO(2), TWO(4), TWO(6), TWO(8),       \
+         TWO(10), TWO(12))                                                                          \
+    CALL(kk128_encipher, "ppssssssss", "", 0, n[0], n[1], TWO(2), TWO(4), TWO(6), TWO(8))         \
+    CALL(kk128_decipher, "ppssssssss", "", 0, n[0], n[1], TWO(2), TWO(4), TWO(6), TWO(8))
 
-#define NUMBERS_MAX 8
+#define NUMBERS_MAX 14
 #define SLICES_MAX 2
 
 /* What is handed in, and what is meant to come of it. */
@@ -110,6 +116,7 @@ static inline const uint8_t *read_case(const uint8_t *at, struct one *one)
 
 /* Makes a call on lent memory. */
 #define SLICE(i) s[i], l[i]
+#define TWO(i) n[i], n[i + 1]
 #define MADE(name, numbers, slices, decisions, ...) \
     case CALL_##name:                               \
         return name(__VA_ARGS__, out, one->lent);

@@ -7,22 +7,23 @@ import assert from 'node:assert/strict';
 
 const [, , file, header, table, ...files] = process.argv;
 const module = await WebAssembly.compile(fs.readFileSync(file));
-const prototypes = [...fs.readFileSync(header, 'utf8').matchAll(/^uint64_t (kk_\w+)\(([^)]*)\);/gm)];
+const prototypes = [...fs.readFileSync(header, 'utf8').matchAll(/^uint64_t (kk\w+)\(([^)]*)\);/gm)];
 const declared = prototypes.map(([, name]) => name);
 assert.deepEqual(WebAssembly.Module.imports(module), []);
 const exported = WebAssembly.Module.exports(module).map(({ name }) => name);
 assert.deepEqual(exported.sort(), [...declared, 'memory', '__heap_base'].sort());
 
 // Of each call, in the header's order: how many numbers it takes, and how many slices it reads.
-const rows = [...fs.readFileSync(table, 'utf8').matchAll(/^ +CALL\((kk_\w+), "(\w*)", "(\w*)",/gm)];
+const rows = [...fs.readFileSync(table, 'utf8').matchAll(/^ +CALL\((kk\w+), "(\w*)", "(\w*)",/gm)];
 const shapes = rows.map(([, name, numbers, slices]) => [name, numbers.length, slices.length]);
 assert.deepEqual(shapes.map(([name]) => name), declared);
 
-// The table says s of each parameter that is secret by its name, and p of the others.
+// The table says s of each parameter that is secret by its name, and p of the others. A value of 128 bits has the
+// names of its halves: w0_high and w0_low.
 const SECRET = ['w0', 'w1', 'k0', 'k1', 'tweak', 'block', 'message'];
 const kinds = ([, name, parameters]) => {
     const names = parameters.split(',').map((parameter) => parameter.match(/\w+$/)[0]);
-    const kind = (parameter) => (SECRET.includes(parameter) ? 's' : 'p');
+    const kind = (parameter) => (SECRET.includes(parameter.replace(/_(high|low)$/, '')) ? 's' : 'p');
     const numbers = names.filter((_, i) => /^\s*uint64_t \w+$/.test(parameters.split(',')[i]));
     const slices = names.filter((_, i) => /const uint8_t \*/.test(parameters.split(',')[i]));
     return [name, numbers.map(kind).join(''), slices.map(kind).join('')];

@@ -86,6 +86,72 @@ mod c {
             out: *mut u8,
             out_length: usize,
         ) -> u64;
+        pub fn kk128_schedule(
+            w0_high: u64,
+            w0_low: u64,
+            k0_high: u64,
+            k0_low: u64,
+            out: *mut u8,
+            out_length: usize,
+        ) -> u64;
+        pub fn kk128_turn(
+            w0_high: u64,
+            w0_low: u64,
+            w1_high: u64,
+            w1_low: u64,
+            k0_high: u64,
+            k0_low: u64,
+            k1_high: u64,
+            k1_low: u64,
+            out: *mut u8,
+            out_length: usize,
+        ) -> u64;
+        pub fn kk128_engine(
+            box_number: u64,
+            rounds: u64,
+            w0_high: u64,
+            w0_low: u64,
+            w1_high: u64,
+            w1_low: u64,
+            k0_high: u64,
+            k0_low: u64,
+            k1_high: u64,
+            k1_low: u64,
+            tweak_high: u64,
+            tweak_low: u64,
+            block_high: u64,
+            block_low: u64,
+            out: *mut u8,
+            out_length: usize,
+        ) -> u64;
+        pub fn kk128_encipher(
+            box_number: u64,
+            rounds: u64,
+            w0_high: u64,
+            w0_low: u64,
+            k0_high: u64,
+            k0_low: u64,
+            tweak_high: u64,
+            tweak_low: u64,
+            block_high: u64,
+            block_low: u64,
+            out: *mut u8,
+            out_length: usize,
+        ) -> u64;
+        pub fn kk128_decipher(
+            box_number: u64,
+            rounds: u64,
+            w0_high: u64,
+            w0_low: u64,
+            k0_high: u64,
+            k0_low: u64,
+            tweak_high: u64,
+            tweak_low: u64,
+            block_high: u64,
+            block_low: u64,
+            out: *mut u8,
+            out_length: usize,
+        ) -> u64;
     }
 }
 
@@ -223,4 +289,80 @@ pub fn open_line(key: Key, line: &[u8], out: &mut [u8]) -> u64 {
     let (line, line_length) = (line.as_ptr(), line.len());
     let (place, room) = (out.as_mut_ptr(), out.len());
     unsafe { c::kk_open_line(key.w0, key.k0, line, line_length, place, room) }
+}
+
+/// The two numbers that a value of 128 bits is handed in as.
+pub fn halves(value: u128) -> [u64; 2] {
+    [(value >> 64) as u64, value as u64]
+}
+
+pub fn schedule128(key: Key<u128>, out: &mut [u8]) -> u64 {
+    let [w0, k0] = [key.w0, key.k0].map(halves);
+    unsafe { c::kk128_schedule(w0[0], w0[1], k0[0], k0[1], out.as_mut_ptr(), out.len()) }
+}
+
+pub fn turn128(schedule: Schedule<u128>, out: &mut [u8]) -> u64 {
+    let Schedule { w0, w1, k0, k1 } = schedule;
+    let [w0, w1, k0, k1] = [w0, w1, k0, k1].map(halves);
+    let (place, room) = (out.as_mut_ptr(), out.len());
+    unsafe {
+        c::kk128_turn(
+            w0[0], w0[1], w1[0], w1[1], k0[0], k0[1], k1[0], k1[1], place, room,
+        )
+    }
+}
+
+pub fn engine128(
+    box_number: u64,
+    rounds: u64,
+    schedule: Schedule<u128>,
+    tweak: u128,
+    block: u128,
+    out: &mut [u8],
+) -> u64 {
+    let Schedule { w0, w1, k0, k1 } = schedule;
+    let [w0, w1, k0, k1, tweak, block] = [w0, w1, k0, k1, tweak, block].map(halves);
+    let (place, room) = (out.as_mut_ptr(), out.len());
+    unsafe {
+        c::kk128_engine(
+            box_number, rounds, w0[0], w0[1], w1[0], w1[1], k0[0], k0[1], k1[0], k1[1], tweak[0],
+            tweak[1], block[0], block[1], place, room,
+        )
+    }
+}
+
+pub fn encipher128(
+    box_number: u64,
+    rounds: u64,
+    key: Key<u128>,
+    tweak: u128,
+    block: u128,
+    out: &mut [u8],
+) -> u64 {
+    let [w0, k0, tweak, block] = [key.w0, key.k0, tweak, block].map(halves);
+    let (place, room) = (out.as_mut_ptr(), out.len());
+    unsafe {
+        c::kk128_encipher(
+            box_number, rounds, w0[0], w0[1], k0[0], k0[1], tweak[0], tweak[1], block[0], block[1],
+            place, room,
+        )
+    }
+}
+
+pub fn decipher128(
+    box_number: u64,
+    rounds: u64,
+    key: Key<u128>,
+    tweak: u128,
+    block: u128,
+    out: &mut [u8],
+) -> u64 {
+    let [w0, k0, tweak, block] = [key.w0, key.k0, tweak, block].map(halves);
+    let (place, room) = (out.as_mut_ptr(), out.len());
+    unsafe {
+        c::kk128_decipher(
+            box_number, rounds, w0[0], w0[1], k0[0], k0[1], tweak[0], tweak[1], block[0], block[1],
+            place, room,
+        )
+    }
 }

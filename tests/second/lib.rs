@@ -1,4 +1,4 @@
-//! The second program: QARMA-64 written from the paper alone, frames from document 01 alone, and what
+//! The second program: QARMA-64 and QARMA-128 written from the paper alone, frames from document 01 alone, and what
 //! is needed to compare the library's C functions with them.
 
 use std::mem::ManuallyDrop;
@@ -11,6 +11,7 @@ pub mod harness;
 pub mod line;
 pub mod listing;
 pub mod qarma;
+pub mod qarma128;
 pub mod rng;
 
 /// The value itself, of which the compiler knows nothing any more. `std::hint::black_box` is younger

@@ -1,55 +1,56 @@
 //! QARMA-64 cell by cell, from source document 000: section 2, the boxes of section 3.3 and the
-//! matrix M = Q = circ(0, ρ, ρ², ρ) of section 3.1.2.
+//! matrix M = Q = circ(0, ρ, ρ², ρ) of section 3.1.2. `qarma128` uses what is the same in QARMA-128.
 
 use std::array;
 
-/// Sixteen cells of 4 bits, the most significant first, row by row in a 4 by 4 square (2.1).
-type Cells = [u8; 16];
+/// Sixteen cells, here of 4 bits, the most significant first, row by row in a 4 by 4 square (2.1).
+pub(crate) type Cells = [u8; 16];
 
 /// A 4-bit box: its outputs for the inputs 0 to 15.
-type Box4 = [u8; 16];
+pub(crate) type Box4 = [u8; 16];
 
 /// The key K = w0 || k0 (2.2).
 #[derive(Clone, Copy, Debug, PartialEq, Eq)]
-pub struct Key {
-    pub w0: u64,
-    pub k0: u64,
+pub struct Key<Word = u64> {
+    pub w0: Word,
+    pub k0: Word,
 }
 
 /// The four words that the engine runs on: outer words w0 and w1, core word k0, centre word k1.
 #[derive(Clone, Copy, Debug, PartialEq, Eq)]
-pub struct Schedule {
-    pub w0: u64,
-    pub w1: u64,
-    pub k0: u64,
-    pub k1: u64,
+pub struct Schedule<Word = u64> {
+    pub w0: Word,
+    pub w1: Word,
+    pub k0: Word,
+    pub k1: Word,
 }
 
 /// τ: new cell i is old cell `SHUFFLE[i]` (2.3).
-const SHUFFLE: [usize; 16] = [0, 11, 6, 13, 10, 1, 12, 7, 5, 14, 3, 8, 15, 4, 9, 2];
+pub(crate) const SHUFFLE: [usize; 16] = [0, 11, 6, 13, 10, 1, 12, 7, 5, 14, 3, 8, 15, 4, 9, 2];
 
 /// h: new tweak cell i is old cell `TWEAK_SHUFFLE[i]` (2.4).
-const TWEAK_SHUFFLE: [usize; 16] = [6, 5, 14, 15, 0, 1, 2, 3, 7, 12, 13, 4, 8, 9, 10, 11];
+pub(crate) const TWEAK_SHUFFLE: [usize; 16] =
+    [6, 5, 14, 15, 0, 1, 2, 3, 7, 12, 13, 4, 8, 9, 10, 11];
 
 /// The tweak cells that ω updates (2.4).
-const OMEGA_CELLS: [usize; 7] = [0, 1, 3, 4, 8, 11, 13];
+pub(crate) const OMEGA_CELLS: [usize; 7] = [0, 1, 3, 4, 8, 11, 13];
 
 /// σ0, σ1 and σ2 (3.3).
-const BOXES: [Box4; 3] = [
+pub(crate) const BOXES: [Box4; 3] = [
     [0, 14, 2, 10, 9, 15, 8, 11, 6, 4, 3, 7, 13, 12, 1, 5],
     [10, 13, 14, 6, 15, 7, 3, 5, 9, 8, 0, 12, 11, 1, 2, 4],
     [11, 6, 8, 15, 12, 0, 9, 14, 3, 7, 4, 5, 13, 2, 1, 10],
 ];
 
 /// Their inverses: σ0 and σ1 undo themselves (3.3).
-const INVERSE_BOXES: [Box4; 3] = [
+pub(crate) const INVERSE_BOXES: [Box4; 3] = [
     BOXES[0],
     BOXES[1],
     [5, 14, 13, 8, 10, 11, 1, 9, 2, 6, 15, 0, 4, 12, 7, 3],
 ];
 
 /// c0 to c7 (Table 1).
-const CONSTANTS: [Cells; 8] = [
+pub(crate) const CONSTANTS: [Cells; 8] = [
     cells(0x0000000000000000),
     cells(0x13198A2E03707344),
     cells(0xA4093822299F31D0),
@@ -61,9 +62,9 @@ const CONSTANTS: [Cells; 8] = [
 ];
 
 /// α (Table 1).
-const ALPHA: u64 = 0xC0AC29B7C97C50DD;
+pub(crate) const ALPHA: u64 = 0xC0AC29B7C97C50DD;
 
-const fn cells(word: u64) -> Cells {
+pub(crate) const fn cells(word: u64) -> Cells {
     let mut cells = [0; 16];
     let mut i = 0;
     while i < 16 {
@@ -79,15 +80,15 @@ fn word(cells: Cells) -> u64 {
         .fold(0, |word, &cell| word << 4 | u64::from(cell))
 }
 
-fn add(a: Cells, b: Cells) -> Cells {
+pub(crate) fn add(a: Cells, b: Cells) -> Cells {
     array::from_fn(|i| a[i] ^ b[i])
 }
 
-fn shuffle(cells: Cells, from: &[usize; 16]) -> Cells {
+pub(crate) fn shuffle(cells: Cells, from: &[usize; 16]) -> Cells {
     array::from_fn(|i| cells[from[i]])
 }
 
-fn unshuffle(cells: Cells, from: &[usize; 16]) -> Cells {
+pub(crate) fn unshuffle(cells: Cells, from: &[usize; 16]) -> Cells {
     let mut old = [0; 16];
     for i in 0..16 {
         old[from[i]] = cells[i];

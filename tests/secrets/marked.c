@@ -204,7 +204,7 @@ int main(int argc, char **argv)
         free(bytes);
     }
     for (i = 0; i < CALL_COUNT; i++) {
-        printf("%-13s %5u calls, %u decisions\n", calls[i].name, came[i].calls, came[i].decisions);
+        printf("%-14s %5u calls, %u decisions\n", calls[i].name, came[i].calls, came[i].decisions);
         if (came[i].calls == 0 || (came[i].decisions > 0) != (calls[i].decisions > 0)) {
             fail(calls[i].name, "not called, or never decided");
         }

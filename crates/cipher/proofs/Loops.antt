@@ -11,42 +11,46 @@ use Rattle.cipher.specs.declared.Schedule.{Schedule}
 use Rattle.cipher.specs.declared.State.{State}
 use Rattle.cipher.proofs.Rounds.{forwardStep-below, backwardStep-below}
 
+-- what a forward and a backward step make of the state x, with the constant ci
+abbrev Forward : Cipher → ℕ → Schedule → State → Cells → State → Type 0
+Forward c b s x ci r = (r .block ≡ forward c b (x .block) (forwardWord s ci (x .tweak))) × (r .tweak ≡ stepped c (x .tweak))
+
+abbrev Backward : Cipher → ℕ → Schedule → State → Cells → State → Type 0
+Backward c b s x ci r = (r .block ≡ backward c b (x .block) (backwardWord c s ci (unstepped c (x .tweak)))) × (r .tweak ≡ unstepped c (x .tweak))
+
 module _ (c : Cipher) (b : ℕ) (s : Schedule) (x : State) {ci : Cells} {r : State} where
-  forwardStep-is : (i : ℕ) → 1 ≤ i → ci ≡ c .constant i
-      → (r .block ≡ forward c b (x .block) (forwardWord s ci (x .tweak))) × (r .tweak ≡ stepped c (x .tweak)) → r ≡ forwardStep c b s i x
+  forwardStep-is : (i : ℕ) → 1 ≤ i → ci ≡ c .constant i → Forward c b s x ci r → r ≡ forwardStep c b s i x
   unfolding forwardStep
   forwardStep-is zero l k e = absurd (omega arith)
   forwardStep-is (suc i) l k e =
       let block = e .0 ∙ ap (λ (a : Cells). forward c b (x .block) (forwardWord s a (x .tweak))) k in
       λ j. record { block = block j; tweak = e .1 j }
 
-  backwardStep-is : (i : ℕ) → 1 ≤ i → ci ≡ c .constant i
-      → (r .block ≡ backward c b (x .block) (backwardWord c s ci (unstepped c (x .tweak)))) × (r .tweak ≡ unstepped c (x .tweak)) → r ≡ backwardStep c b s i x
+  backwardStep-is : (i : ℕ) → 1 ≤ i → ci ≡ c .constant i → Backward c b s x ci r → r ≡ backwardStep c b s i x
   unfolding backwardStep
   backwardStep-is zero l k e = absurd (omega arith)
   backwardStep-is (suc i) l k e =
       let block = e .0 ∙ ap (λ (a : Cells). backward c b (x .block) (backwardWord c s a (unstepped c (x .tweak)))) k in
       λ j. record { block = block j; tweak = e .1 j }
 
-module _ {c : Cipher} (k : Lawful c) {s : Schedule} (g : ScheduleBelow (c .bits) s) {b : ℕ} (n : b < 3) {ci : Cells} {x r : State} (h : StateBelow (c .bits) x) where
   -- what i steps make of a start, the next step takes on
-  pub forwardStep-again : (i : ℕ) → 1 ≤ i → ci ≡ c .constant i
-      → (r .block ≡ forward c b (x .block) (forwardWord s ci (x .tweak))) × (r .tweak ≡ stepped c (x .tweak))
+  pub forwardStep-again : (i : ℕ) → 1 ≤ i → ci ≡ c .constant i → Forward c b s x ci r
       → {x0 : State} → ((y : State) → x0 ≡ forwardSteps c b s 1 y → x ≡ forwardSteps c b s i y)
-      → StateBelow (c .bits) r × ((y : State) → x0 ≡ forwardSteps c b s 1 y → r ≡ forwardSteps c b s (i + 1) y)
-  forwardStep-again i l q e inv =
-      let step : r ≡ forwardStep c b s i x = forwardStep-is c b s x i l q e in
-      (rw step (forwardStep-below k g n i h), λ y p. rw add-one (step ∙ ap (forwardStep c b s i) (inv y p)))
+      → (y : State) → x0 ≡ forwardSteps c b s 1 y → r ≡ forwardSteps c b s (i + 1) y
+  forwardStep-again i l q e inv y p = rw add-one (forwardStep-is i l q e ∙ ap (forwardStep c b s i) (inv y p))
 
   -- what is left to do from i, is what is left from i - 1 after the step
-  pub backwardStep-again : (i : ℕ) → 1 < i → ci ≡ c .constant (i - 1)
-      → (r .block ≡ backward c b (x .block) (backwardWord c s ci (unstepped c (x .tweak)))) × (r .tweak ≡ unstepped c (x .tweak))
-      → {w : State} → backwardSteps c b s i x ≡ w
-      → StateBelow (c .bits) r × (backwardSteps c b s (i - 1) r ≡ w)
+  pub backwardStep-again : (i : ℕ) → 1 < i → ci ≡ c .constant (i - 1) → Backward c b s x ci r
+      → {w : State} → backwardSteps c b s i x ≡ w → backwardSteps c b s (i - 1) r ≡ w
   backwardStep-again zero l q e inv = absurd (omega arith)
-  backwardStep-again (suc i) l q e inv =
-      let step : r ≡ backwardStep c b s i x = backwardStep-is c b s x i (omega arith) (rw sub-one at q) e in
-      (rw step (backwardStep-below k g n i h), rw sub-one (ap (backwardSteps c b s i) step ∙ inv))
+  backwardStep-again (suc i) l q e inv = rw sub-one (ap (backwardSteps c b s i) (backwardStep-is i (omega arith) (rw sub-one at q) e) ∙ inv)
+
+  -- both keep block and tweak to the bits of cells
+  pub forwardStep-keeps : Lawful c → ScheduleBelow (c .bits) s → b < 3 → StateBelow (c .bits) x → (i : ℕ) → 1 ≤ i → ci ≡ c .constant i → Forward c b s x ci r → StateBelow (c .bits) r
+  forwardStep-keeps k g n h i l q e = rw (forwardStep-is i l q e) (forwardStep-below k g n i h)
+
+  pub backwardStep-keeps : Lawful c → ScheduleBelow (c .bits) s → b < 3 → StateBelow (c .bits) x → (i : ℕ) → 1 ≤ i → ci ≡ c .constant i → Backward c b s x ci r → StateBelow (c .bits) r
+  backwardStep-keeps k g n h i l q e = rw (backwardStep-is i l q e) (backwardStep-below k g n i h)
 
 -- the steps put together
 pub whole : (c : Cipher) (b r : ℕ) (s : Schedule) (t p : Cells) (x : State) (i j : ℕ) {d m : State} {answer : Cells}

@@ -1,7 +1,7 @@
 -- The laws of rounds and steps, over the cell width: they keep to the cells, and a backward round undoes a forward one.
-use mathlib.Core.Path.{_≡_, ap, ap₂, _∙_}
+use mathlib.Core.Path.{_≡_}
 use Prim.Native.Nat.{ℕ, zero, suc, _<_}
-use Rattle.cells.specs.Cells.{Cipher, Below, added, looked, shuffled, unshuffled, mixed}
+use Rattle.cells.specs.Cells.{Cipher, Below, looked, shuffled, unshuffled, mixed}
 use Rattle.cells.specs.declared.Cells.{Cells}
 use Rattle.cells.proofs.Laws.{added-below, added-twice}
 use Rattle.cells.proofs.Mix.{mixed-added}
@@ -78,24 +78,6 @@ module _ {c : Cipher} (k : Lawful c) {x w : Cells} (p : Below (c .bits) x) (q : 
       let moved = shuffled-below k p in
       rw (shuffle-unshuffle k (added-below (mix-below k moved) q), mixed-added (c .bits) (c .rows) (mixed c (shuffled x)) w, mix-twice k moved, added-twice (shuffled x) (mixed c w) (moved .size))
       (unshuffle-shuffle k p)
-
--- ---- steps 3 to 5, one after the other
-
-module _ (c : Cipher) (b : ℕ) (x t w : Cells) {p q r s v : Cells} where
-  -- steps 3 and 4
-  pub entered : (k : Cells) {p' q' r' s' : Cells} → v ≡ added w t → p ≡ added x v → q ≡ shuffled p → r ≡ mixed c q → s ≡ looked (c .box b) r
-      → p' ≡ shuffled s → q' ≡ mixed c p' → r' ≡ added q' k → s' ≡ unshuffled r'
-      → s' ≡ centre c k (forward c b x (added w t))
-  unfolding forward centre
-  entered k e0 e1 e2 e3 e4 e5 e6 e7 e8 =
-      e8
-      ∙ ap unshuffled
-      (e7 ∙ ap (λ (a : Cells). added a k) (e6 ∙ ap (mixed c) (e5 ∙ ap shuffled (e4 ∙ ap (looked (c .box b)) (e3 ∙ ap (mixed c) (e2 ∙ ap shuffled (e1 ∙ ap (added x) e0)))))))
-
-  -- step 5
-  pub left : p ≡ looked (c .unbox b) x → q ≡ mixed c p → r ≡ unshuffled q → v ≡ added w t → s ≡ added r v → s ≡ backward c b x (added w t)
-  unfolding backward
-  left e1 e2 e3 e0 e4 = e4 ∙ ap₂ added (e3 ∙ ap unshuffled (e2 ∙ ap (mixed c) e1)) e0
 
 -- ---- steps 2 to 6
 

@@ -21,7 +21,7 @@ pub record StateBelow (m : ℕ) (x : State) : Type 0 where
   pub block : Below m (x .block)
   pub tweak : Below m (x .tweak)
 
--- "w0 rotated right by 1, plus w0 shifted right by 63": of n bits
+-- "w0 rotated right by 1, plus w0 shifted right by 63", or by 16 m - 1 (document 000, 2.2): of n bits
 abbrev pub rotatedRight : ℕ → ℕ → ℕ
 rotatedRight n w = w % 2 * 2 ^ (n - 1) + w / 2
 

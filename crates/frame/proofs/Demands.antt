@@ -20,7 +20,7 @@ use Rattle.refusals.specs.Refusals.{written}
 use Rattle.words.specs.Lists.{among}
 use Rattle.words.proofs.Cases.{le-case, gt-case, yes-case, no-case, yes-or-no, by-lt, not-true-false}
 use Rattle.refusals.proofs.Answers.{not-both, Can, can-refused, can-wrote, can-same, can-le, can-yes, can-give, gives}
-use Rattle.cells.specs.Qarma64.{qarma64}
+use Rattle.cells64.specs.Qarma64.{qarma64}
 use Rattle.cipher.specs.Engine.{ScheduleBelow, keySchedule, turned}
 use Rattle.cipher.specs.declared.Schedule.{Schedule}
 use Rattle.cipher.proofs.Demands.{key-below}
@@ -36,7 +36,7 @@ module _ (w0 k0 serial : ℕ) (a : List ℕ) where
   s = keySchedule qarma64 w0 k0
 
   g : ScheduleBelow 4 s
-  g = key-below w0 k0
+  g = key-below qarma64 w0 k0
 
   -- with enough room, sealing writes the sealed bytes
   pub seals : (m out : List ℕ) → Within serial a (length m) → sealedSize (length m) ≤ length out

@@ -15,8 +15,8 @@ use Rattle.words.specs.Digits.{word, digits, Digits, laid}
 use Rattle.words.proofs.Laws.{word-digits, word-fits, length-digits, length-laid, laid-same, laid-below, digits-append, digits-below, digits-take, digits-drop}
 use Rattle.words.specs.Lists.{sum}
 use Rattle.words.proofs.Cases.{yes-case, both-yes, by-lt}
-use Rattle.cells.specs.Qarma64.{qarma64}
-use Rattle.cells.proofs.Lawful.{lawful64}
+use Rattle.cells64.specs.Qarma64.{qarma64}
+use Rattle.cells64.proofs.Lawful64.{lawful64}
 use Rattle.cells.proofs.Xor.{sum-same, sum-below}
 use Rattle.cipher.specs.Engine.{ScheduleBelow, turned}
 use Rattle.cipher.specs.declared.Schedule.{Schedule}
@@ -57,7 +57,7 @@ module _ {s : Schedule} (g : ScheduleBelow 4 s) (serial : ℕ) (a : List ℕ) wh
   u = turned qarma64 s
 
   enciphered-below : (t p : ℕ) → frameEngine s t p < 2 ^ 64
-  enciphered-below t p = word-below 1 7 (omega arith) g t p
+  enciphered-below t p = word-below lawful64 1 7 (omega arith) g t p
 
   tag-below : (n total : ℕ) → tagOf s serial a n total < 2 ^ 64
   tag-below n total = xor-lt 64 _ _ (enciphered-below _ total) (sum-below 64 (blocks (length a)) _ (λ j l. enciphered-below _ _))
@@ -91,7 +91,7 @@ module _ {s : Schedule} (g : ScheduleBelow 4 s) (serial : ℕ) (a : List ℕ) wh
     m = openedMessage u serial n c
 
     below : (i : ℕ) → f i < 2 ^ 64
-    below i = word-below 1 7 (omega arith) (turned-below lawful64 g) _ _
+    below i = word-below lawful64 1 7 (omega arith) (turned-below lawful64 g) _ _
 
     block-whole : (i : ℕ) → i < blocks n → i * 8 + 8 ≤ n → block m i ≡ f i
     block-whole i h w =
@@ -115,7 +115,7 @@ module _ {s : Schedule} (g : ScheduleBelow 4 s) (serial : ℕ) (a : List ℕ) wh
     block-part : (i : ℕ) → i < blocks n → part (sealedAs n f) i ≡ part c i
     block-part i h =
         part-laid (blocks n) (λ j. frameEngine s (tweak (purpose 0 n j) serial j) (f j)) (digits 8 8 (tagOf s serial a n (sum (blocks n) f))) i h
-        ∙ ap (digits 8 8) (word-redone 1 7 (omega arith) g (tweak (purpose 0 n i) serial i) (part-fits i))
+        ∙ ap (digits 8 8) (word-redone lawful64 1 7 (omega arith) g (tweak (purpose 0 n i) serial i) (part-fits i))
         ∙ part-word i hc (omega arith)
 
     tag-part : (i : ℕ) → i ≡ blocks n → part (sealedAs n f) i ≡ part c i
@@ -168,7 +168,7 @@ module _ {s : Schedule} (g : ScheduleBelow 4 s) (serial : ℕ) (a : List ℕ) wh
         let t = tweak (purpose 0 n i) serial i in
         ap (λ (p : List ℕ). frameEngine u t (word 8 p)) (part-laid (blocks n) (λ j. frameEngine s (tweak (purpose 0 n j) serial j) (block m j)) (digits 8 8 (tagOf s serial a n (sum (blocks n) (block m)))) i h)
         ∙ ap (frameEngine u t) (word-digits 8 8 (frameEngine s t (block m i)) (enciphered-below t (block m i)))
-        ∙ word-undone 1 7 (omega arith) g t (filled-fits (part-bytes i hm) (part-size m i))
+        ∙ word-undone lawful64 1 7 (omega arith) g t (filled-fits (part-bytes i hm) (part-size m i))
 
     fill-yes : fillRight n (deciphered (n / 8)) ≡ true
     fill-yes =

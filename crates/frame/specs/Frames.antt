@@ -12,9 +12,9 @@ use Rattle.refusals.specs.declared.Answer.the-variants.{Refused}
 use Rattle.refusals.specs.declared.Refusal.the-variants.{Length, Serial, SealedSize, Disagrees}
 use Rattle.refusals.specs.Refusals.{roomFor, written, giving}
 use Rattle.words.specs.Lists.{sum}
-use Rattle.cells.specs.Qarma64.{qarma64}
+use Rattle.cells64.specs.Qarma64.{qarma64}
 use Rattle.cipher.specs.Engine.{keySchedule, turned}
-use Rattle.cipher.specs.Words.{engineWord}
+use Rattle.cipher.specs.Numbers.{engineWord}
 use Rattle.cipher.specs.declared.Schedule.{Schedule}
 use Rattle.frame.specs.Blocks.{blocks, part, block, tweak, purpose, tagPurpose}
 

@@ -1,5 +1,4 @@
 // Frames: sealing and opening, box 1 and r = 7.
-use cells::Cells;
 use cipher::Schedule;
 use refusals::Answer;
 use refusals::Refusal;
@@ -13,7 +12,7 @@ ghost use Rattle.words.specs.Lists.{sum, upto};
 ghost use Rattle.cipher.specs.Engine.{ScheduleBelow, turned};
 ghost use Rattle.frame.specs.Blocks.{blocks, filled, block, tweak, purpose, tagPurpose};
 ghost use Rattle.frame.specs.Frames.{frameEngine, sealedBlock, labelSum, tagOf, sealedSize, sealedBytes, sealing, openedBlock, fillRight, accepted, opening};
-ghost use Rattle.cells.specs.Qarma64.{qarma64};
+ghost use Rattle.cells64.specs.Qarma64.{qarma64};
 
 // The limits of a frame: bytes of a message, bytes of a label, and the highest serial.
 const MESSAGE_MAX: usize = 1024;
@@ -89,7 +88,7 @@ fn engine(s: Schedule, t: u64, p: u64) -> u64
     requires { ⌜ ScheduleBelow 4 s ⌝ }
     ensures { λ r. ⌜ r ≡ frameEngine s t p ⌝ }
 {
-    s.engine(1, 7, Cells::of(t), Cells::of(p)).word()
+    cells64::word(cipher64::engine_on_cells(s, 1, 7, cells64::of(t), cells64::of(p)))
 }
 
 // Block i of some bytes enciphered, by the purpose of a whole one.
@@ -259,7 +258,7 @@ pub fn seal(w0: u64, k0: u64, serial: u64, label: &[u8], message: &[u8], out: &m
     if out.len() < size {
         return Answer::Refused(Refusal::Room);
     }
-    put_sealed(Schedule::of_key(w0, k0), serial, label, message, out);
+    put_sealed(cipher64::key_schedule(w0, k0), serial, label, message, out);
     Answer::Wrote { count: size as u32 }
 }
 
@@ -290,9 +289,9 @@ pub fn open(
     if out.len() < n {
         return Answer::Refused(Refusal::Room);
     }
-    let s = Schedule::of_key(w0, k0);
+    let s = cipher64::key_schedule(w0, k0);
     let mut plain = [0u64; 128];
-    open_blocks(s.turn(), serial, n, sealed, &mut plain);
+    open_blocks(cipher64::turn(s), serial, n, sealed, &mut plain);
     if !agrees(s, serial, label, n, sealed, &plain) {
         return Answer::Refused(Refusal::Disagrees);
     }

@@ -6,10 +6,10 @@ use Rattle.words.specs.Cases.{ifLe}
 use Rattle.words.specs.Lists.{upto}
 use Rattle.cells.specs.Cells.{cut, joined, picked, onSeven, added, mixedBy}
 use Rattle.cipher.specs.Engine.{turned}
-use Rattle.cipher.specs.Words.{wordsOf}
+use Rattle.cipher.specs.Numbers.{joinedNumbers}
 use Rattle.frame.specs.Blocks.{filled}
 use Rattle.kkurimyeot.specs.Examples.{table}
 
 pub examples : map (λ (row : List ℕ × List ℕ). row .0) table ≡ map (λ (row : List ℕ × List ℕ). row .1) table
-unfolding table upto cut joined picked onSeven added mixedBy turned wordsOf filled ifLe
+unfolding table upto cut joined picked onSeven added mixedBy turned joinedNumbers filled ifLe
 examples = refl

@@ -26,6 +26,21 @@ encipher-decided κs a x y v w p q = ((λ i. (p ∙ sym q) i .0), λ i. (tt, (tt
 pub decipher-decided : Decided proofs.kk_decipher.Kinds.ps proofs.kk_decipher.Kinds.r proofs.kk_decipher.Reads.Post
 decipher-decided κs a x y v w p q = ((λ i. (p ∙ sym q) i .0), λ i. (tt, (tt, (tt, (tt, (tt, (tt, ((p ∙ sym q) i .1, tt))))))))
 
+pub schedule128-decided : Decided proofs.kk128_schedule.Kinds.ps proofs.kk128_schedule.Kinds.r proofs.kk128_schedule.Reads.Post
+schedule128-decided κs a x y v w p q = ((λ i. (p ∙ sym q) i .0), λ i. (tt, (tt, (tt, (tt, ((p ∙ sym q) i .1, tt))))))
+
+pub turn128-decided : Decided proofs.kk128_turn.Kinds.ps proofs.kk128_turn.Kinds.r proofs.kk128_turn.Reads.Post
+turn128-decided κs a x y v w p q = ((λ i. (p ∙ sym q) i .0), λ i. (tt, (tt, (tt, (tt, (tt, (tt, (tt, (tt, ((p ∙ sym q) i .1, tt))))))))))
+
+pub engine128-decided : Decided proofs.kk128_engine.Kinds.ps proofs.kk128_engine.Kinds.r proofs.kk128_engine.Reads.Post
+engine128-decided κs a x y v w p q = ((λ i. (p ∙ sym q) i .0), λ i. (tt, (tt, (tt, (tt, (tt, (tt, (tt, (tt, (tt, (tt, (tt, (tt, (tt, (tt, ((p ∙ sym q) i .1, tt))))))))))))))))
+
+pub encipher128-decided : Decided proofs.kk128_encipher.Kinds.ps proofs.kk128_encipher.Kinds.r proofs.kk128_encipher.Reads.Post
+encipher128-decided κs a x y v w p q = ((λ i. (p ∙ sym q) i .0), λ i. (tt, (tt, (tt, (tt, (tt, (tt, (tt, (tt, (tt, (tt, ((p ∙ sym q) i .1, tt))))))))))))
+
+pub decipher128-decided : Decided proofs.kk128_decipher.Kinds.ps proofs.kk128_decipher.Kinds.r proofs.kk128_decipher.Reads.Post
+decipher128-decided κs a x y v w p q = ((λ i. (p ∙ sym q) i .0), λ i. (tt, (tt, (tt, (tt, (tt, (tt, (tt, (tt, (tt, (tt, ((p ∙ sym q) i .1, tt))))))))))))
+
 pub seal-decided : Decided proofs.kk_seal.Kinds.ps proofs.kk_seal.Kinds.r proofs.kk_seal.Reads.Post
 seal-decided κs a x y v w p q =
     ((λ i. (p ∙ sym q) i .0), λ i. (tt, (tt, (tt, (tt, (tt, ((p ∙ sym q) i .1, tt)))))))

@@ -2,9 +2,9 @@
 use mathlib.Core.List.{List, [], _∷_}
 use Prim.Native.Nat.{ℕ}
 use Rattle.cells.specs.Cells.{cut, joined, shuffled, mixedColumn, bitStepped, stepped}
-use Rattle.cells.specs.Qarma64.{qarma64, entries}
+use Rattle.cells64.specs.Qarma64.{qarma64, entries}
 use Rattle.cipher.specs.Engine.{w1From}
-use Rattle.cipher.specs.Words.{turnedWords}
+use Rattle.cipher64.specs.Words.{turnedWords}
 use Rattle.frame.specs.Blocks.{block, tweak}
 use Rattle.kkurimyeot.specs.Calls.{fourWords}
 

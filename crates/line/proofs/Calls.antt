@@ -10,7 +10,7 @@ use Rattle.refusals.specs.declared.Answer.the-variants.{Wrote, Refused}
 use Rattle.refusals.specs.declared.Refusal.{Refusal}
 use Rattle.refusals.specs.Refusals.{giving}
 use Rattle.refusals.proofs.Answers.{not-both}
-use Rattle.cells.specs.Qarma64.{qarma64}
+use Rattle.cells64.specs.Qarma64.{qarma64}
 use Rattle.cipher.specs.Engine.{keySchedule}
 use Rattle.frame.specs.Frames.{sealedSize, sealedBytes, sealing, Within}
 use Rattle.frame.proofs.Opening.{sealed-length}

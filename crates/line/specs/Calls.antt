@@ -6,7 +6,7 @@ use lib.ListN.{length}
 use Rattle.words.specs.Digits.{Digits}
 use Rattle.refusals.specs.declared.Answer.{Answer}
 use Rattle.refusals.specs.Refusals.{giving}
-use Rattle.cells.specs.Qarma64.{qarma64}
+use Rattle.cells64.specs.Qarma64.{qarma64}
 use Rattle.cipher.specs.Engine.{keySchedule}
 use Rattle.frame.specs.Frames.{limited, sealedSize, sealedBytes, opening, Within}
 use Rattle.line.specs.Line.{Frame, lineOf, refusedAt}

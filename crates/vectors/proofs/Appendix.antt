@@ -4,9 +4,9 @@ use mathlib.Core.Path.{_≡_, refl}
 use Prim.Native.Nat.{ℕ}
 use Rattle.cells.specs.Cells.{cut, joined, added, looked, picked, mixedBy, onSeven}
 use Rattle.words.specs.Lists.{upto}
-use Rattle.cells.specs.Qarma64.{qarma64}
+use Rattle.cells64.specs.Qarma64.{qarma64}
 use Rattle.cipher.specs.Engine.{keySchedule, turned, forward, shortForward, backward, shortBackward, forwardWord, backwardWord, forwardStep, centre, middle, backwardStep, engine}
-use Rattle.cipher.specs.Words.{engineWord}
+use Rattle.cipher.specs.Numbers.{engineWord}
 use Rattle.cipher.specs.declared.Schedule.{Schedule}
 
 -- box number, rounds and ciphertext

@@ -1,2 +1,3 @@
 pub mod Appendix
 pub mod Twice
+pub mod Blocks128

@@ -8,7 +8,7 @@ use Rattle.words.specs.Digits.{digits}
 use Rattle.words.proofs.Laws.{digits-below}
 use Rattle.cells.specs.Cells.{cut, joined, added, looked, picked, mixedBy, onSeven}
 use Rattle.words.specs.Lists.{upto}
-use Rattle.cells.specs.Qarma64.{qarma64}
+use Rattle.cells64.specs.Qarma64.{qarma64}
 use Rattle.cipher.specs.Engine.{keySchedule, forward, shortForward, backward, shortBackward, forwardWord, backwardWord, forwardStep, centre, middle, backwardStep, engine}
 use Rattle.cipher.specs.declared.Schedule.{Schedule}
 use Rattle.frame.specs.Blocks.{filled, purpose, tagPurpose}

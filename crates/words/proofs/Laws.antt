@@ -53,6 +53,13 @@ pub digits-below : (m n w : ℕ) → Digits m (digits m n w)
 digits-below m zero w = none
 digits-below m (suc n) w = digits-append (digits-below m n (w / 2 ^ m)) (more (mod-lt w (pow-pos m)) none)
 
+-- n digits know the n low digits of a number only
+pub digits-low : (m n w : ℕ) → digits m n (w % 2 ^ (m * n)) ≡ digits m n w
+digits-low m n w =
+    ap (digits m n) (sym (word-low m n w))
+    ∙ ap (λ (k : ℕ). digits m k (word m (digits m n w))) (sym (length-digits m n w))
+    ∙ digits-word (digits-below m n w)
+
 -- what owning a slice of bytes tells
 pub bytes : (s : List ℕ) → ((i : ℕ) → Fits w8 (getD s i 0)) → Digits 8 s
 bytes [] h = none

@@ -9,7 +9,7 @@ use lib.Seq.{length-take-le}
 use Rattle.words.specs.Cases.{ifYes}
 use Rattle.words.specs.Digits.{_⊕_}
 use Rattle.words.proofs.Laws.{bytes, part-fits}
-use Rattle.cells.specs.Qarma64.{qarma64}
+use Rattle.cells64.specs.Qarma64.{qarma64}
 use Rattle.cipher.specs.Engine.{turned}
 use Rattle.frame.specs.Blocks.{blocks}
 use Rattle.frame.specs.Frames.{openedBlock, accepted, tagOf}

@@ -9,14 +9,14 @@ use native.Mathlib.Omega.{arith}
 use Rattle.words.proofs.Laws.{laid-same}
 use Rattle.words.proofs.Cases.{le-case, gt-case, yes-case, no-case}
 use Rattle.words.specs.Lists.{upto}
-use Rattle.cells.specs.Qarma64.{qarma64}
+use Rattle.cells64.specs.Qarma64.{qarma64}
 use Rattle.cipher.specs.Engine.{keySchedule, turned}
 use Rattle.cipher.specs.declared.Schedule.{Schedule}
 use Rattle.refusals.specs.declared.Answer.the-variants.{Wrote}
 use Rattle.frame.specs.Blocks.{blocks}
 use Rattle.frame.proofs.Laws.{word-at}
 use Rattle.cipher.proofs.Rounds.{turned-below}
-use Rattle.cells.proofs.Lawful.{lawful64}
+use Rattle.cells64.proofs.Lawful64.{lawful64}
 use Rattle.cipher.proofs.Demands.{schedule-below}
 use Rattle.frame.specs.Frames.{opening, accepted, openedBlock, openedMessage, Within}
 use Rattle.frame.proofs.Limits.{goes-on, long-message, long-label, high-serial}
@@ -56,14 +56,14 @@ no-room c =
 
 -- the turned schedule has cells below 16, and there are blocks and places for all
 blocks-fit : tie.Need-open-blocks-requires
-blocks-fit c κs = ((rw (c .before .turn .ensures, c .before .before .of-key .ensures) (turned-below lawful64 (schedule-below 4 _ _ _ _)), omega arith), (omega arith, (omega arith, omega arith)))
+blocks-fit c κs = ((rw (c .before .turn .ensures, c .before .before .key-schedule .ensures) (turned-below lawful64 (schedule-below 4 _ _ _ _)), omega arith), (omega arith, (omega arith, omega arith)))
 
 -- what was deciphered are the blocks that the definition opens
 deciphered : tie.Need-agrees-requires
 deciphered c κs =
     let args = c .before .before .before .before .before .before .before .before .before .before .before .before .before .before .before .args in
     let opened = c .before .before .open-blocks .ensures ∙ ap (λ (u : Schedule). upto (blocks (args .n)) (openedBlock u (args .serial) (args .n) (args .sealed .now))) (c .before .before .before .before .turn .ensures) in
-    (((rw (c .before .before .before .before .before .of-key .ensures) (schedule-below 4 _ _ _ _), omega arith), (omega arith, omega arith)), (omega arith, (search needs, opened)))
+    (((rw (c .before .before .before .before .before .key-schedule .ensures) (schedule-below 4 _ _ _ _), omega arith), (omega arith, omega arith)), (omega arith, (search needs, opened)))
 
 -- refusal 6: tag or fill disagrees
 disagrees : tie.Need-returns-6
@@ -75,7 +75,7 @@ disagrees c =
     let limits = tests .before .before .before in
     let args = limits .before .before .before .before .before .before .args in
     let within : Within (args .serial) (args .label .now) (args .n) = record { message = limits .before .before .if1 .left; label = limits .before .if2 .left; serial = omega (arith, limits .if3 .left) } in
-    let no = ap (λ (s : Schedule). accepted s (args .serial) (args .label .now) (args .n) (args .sealed .now)) (sym (key .of-key .ensures)) ∙ sym (agreed .ensures) ∙ not-true _ (c .if6 .taken) in
+    let no = ap (λ (s : Schedule). accepted s (args .serial) (args .label .now) (args .n) (args .sealed .now)) (sym (key .key-schedule .ensures)) ∙ sym (agreed .ensures) ∙ not-true _ (c .if6 .taken) in
     no-case _ _ _ no
     ∙ le-case _ _ _ _ (tests .if5 .left)
     ∙ yes-case _ _ _ (eq-eqb _ _ (tests .before .if4 .left ∙ tests .before .before .sealed-size .ensures))
@@ -94,8 +94,8 @@ opened c =
     let limits = tests .before .before .before in
     let args = limits .before .before .before .before .before .before .args in
     let within : Within (args .serial) (args .label .now) (args .n) = record { message = limits .before .before .if1 .left; label = limits .before .if2 .left; serial = omega (arith, limits .if3 .left) } in
-    let yes = ap (λ (s : Schedule). accepted s (args .serial) (args .label .now) (args .n) (args .sealed .now)) (sym (key .of-key .ensures)) ∙ sym (agreed .agrees .ensures) ∙ not-false _ (c .before .before .before .before .before .if6 .left) in
-    let plain = made .open-blocks .ensures ∙ ap (λ (u : Schedule). upto (blocks (args .n)) (openedBlock u (args .serial) (args .n) (args .sealed .now))) (turning .turn .ensures ∙ ap (turned qarma64) (key .of-key .ensures)) in
+    let yes = ap (λ (s : Schedule). accepted s (args .serial) (args .label .now) (args .n) (args .sealed .now)) (sym (key .key-schedule .ensures)) ∙ sym (agreed .agrees .ensures) ∙ not-false _ (c .before .before .before .before .before .if6 .left) in
+    let plain = made .open-blocks .ensures ∙ ap (λ (u : Schedule). upto (blocks (args .n)) (openedBlock u (args .serial) (args .n) (args .sealed .now))) (turning .turn .ensures ∙ ap (turned qarma64) (key .key-schedule .ensures)) in
     let bytes = put .ensures ∙ ap (λ (l : List ℕ). take (args .n) l ++ drop (args .n) (args .out .now)) (laid-same (blocks (args .n)) (word-at (blocks (args .n)) _ _ plain)) in
     let message = openedMessage (turned qarma64 (keySchedule qarma64 (args .w0) (args .k0))) (args .serial) (args .n) (args .sealed .now) in
     ap (λ l. (Wrote (args .n), l)) bytes

@@ -26,13 +26,13 @@ seal-spec =
     (λ c κs. search needs)
     (λ c. gives-none _ _ _ (sealed-length _ _ _ _) (omega arith) ∙ goes-on _ _ _ _ _ (record { message = omega arith; label = omega arith; serial = omega arith }))
     (λ c κs. search needs)
-    (λ c κs. ((rw (c .before .of-key .ensures) (schedule-below 4 _ _ _ _), omega arith), (omega arith, (omega arith, omega arith))))
+    (λ c κs. ((rw (c .before .key-schedule .ensures) (schedule-below 4 _ _ _ _), omega arith), (omega arith, (omega arith, omega arith))))
     (λ c. search needs)
     (λ c. search needs)
     (λ c.
     let args = c .before .before .before .before .before .before .before .before .before .before .before .before .before .args in
     let made = c .before .before .put-sealed .ensures
-    ∙ ap (λ (s : Schedule). sealedBytes s (args .serial) (args .label .now) (args .message .now) ++ drop (sealedSize (length (args .message .now))) (args .out .now)) (c .before .before .before .before .of-key .ensures) in
+    ∙ ap (λ (s : Schedule). sealedBytes s (args .serial) (args .label .now) (args .message .now) ++ drop (sealedSize (length (args .message .now))) (args .out .now)) (c .before .before .before .before .key-schedule .ensures) in
     ap₂ (λ (k : ℕ) (l : List ℕ). (Wrote k, l)) (c .before .before .before .before .before .before .sealed-size .ensures) made
     ∙ gives _ _ _ (sealed-length _ _ _ _) (omega arith)
     ∙ goes-on _ _ _ _ _ (record { message = omega arith; label = omega arith; serial = omega arith })))

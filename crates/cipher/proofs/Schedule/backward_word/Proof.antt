@@ -3,21 +3,16 @@ use mathlib.Core.Path.{ap, _∙_}
 use Rattle.cells.specs.Cells.{added}
 use Rattle.cells.specs.declared.Cells.{Cells}
 use borrow.Author.Needs.{needs}
-use Rattle.cipher.specs.Engine.{backwardWord}
 use Rattle.cipher.proofs.Schedule.backward_word.Statement.{statement}
 use Rattle.cipher.proofs.Schedule.backward_word.Tie as tie
 
 pub backward-word-spec : {M : Type 1} → statement M
-unfolding backwardWord
 backward-word-spec =
     tie.close
     (tie.spec
     (λ c κs. search needs)
     (λ c κs. search needs)
     (λ c κs. search needs)
-    (λ c κs. search needs)
     (λ c.
-    let args = c .before .before .before .before .before .args in
-    c .add3 .ensures
-    ∙ ap (λ (a : Cells). added a (args .constant))
-    (c .before .add2 .ensures ∙ ap (λ (a : Cells). added a (args .tweak)) (c .before .before .add .ensures ∙ ap (added (args .self .k0)) (c .before .before .before .alpha .ensures)))))
+    let args = c .before .before .before .before .args in
+    c .add3 .ensures ∙ ap (λ (a : Cells). added a (args .constant)) (c .before .add2 .ensures ∙ ap (λ (a : Cells). added a (args .tweak)) (c .before .before .add .ensures))))

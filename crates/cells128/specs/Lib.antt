@@ -1,0 +1,3 @@
+pub mod Qarma128
+pub mod Halves
+pub mod Workings

@@ -1,0 +1,3 @@
+pub mod Halves
+pub mod Lawful64
+pub mod Outcomes

@@ -1,0 +1,4 @@
+pub mod Constants
+pub mod Examples
+pub mod Demands
+pub mod Outcomes
