@@ -24,7 +24,7 @@ use Rattle.cells64.specs.Qarma64.{qarma64}
 use Rattle.cipher.specs.Engine.{ScheduleBelow, keySchedule, turned}
 use Rattle.cipher.specs.declared.Schedule.{Schedule}
 use Rattle.cipher.proofs.Demands.{key-below}
-use Rattle.frame.specs.Blocks.{part, tweak, purpose}
+use Rattle.frame.specs.Blocks.{part, tweak, openedPurpose}
 use Rattle.frame.specs.Frames.{messageMax, labelMax, serialMax, frameEngine, sealedSize, sealedBytes, sealing, openedBlock, openedMessage, accepted, opening, SealedFrom, Within}
 use Rattle.frame.proofs.Fills.{fill-found}
 use Rattle.frame.proofs.Limits.{goes-on, long-message, long-label, high-serial, can-limited}
@@ -171,9 +171,9 @@ module _ {s : Schedule} (g : ScheduleBelow 4 s) (serial : ℕ) (a c : List ℕ) 
   -- the last block at a length with a fill
   last-fill : (n q : ℕ) → n / 8 ≡ q → 1 ≤ n % 8 → SealedFrom s serial a n c
       → frameEngine (turned qarma64 s) (tweak 1 serial q) (word 8 (part c q)) % 2 ^ (64 - n % 8 * 8) ≡ 2 ^ (63 - n % 8 * 8)
-  unfolding purpose
+  unfolding openedPurpose
   last-fill n q e h x =
-      let one : 1 ≡ purpose 0 n q = gt-case (q * 8 + 8) n 0 1 (omega arith) in
+      let one : 1 ≡ openedPurpose n q = gt-case (q * 8 + 8) n 0 1 (omega arith) in
       ap (λ (i : ℕ). frameEngine (turned qarma64 s) (tweak i serial q) (word 8 (part c q)) % 2 ^ (64 - n % 8 * 8)) one
       ∙ ap (λ (i : ℕ). openedBlock (turned qarma64 s) serial n c i % 2 ^ (64 - n % 8 * 8)) (sym e)
       ∙ fill-found n (openedBlock (turned qarma64 s) serial n c (n / 8)) h (accepted-both g serial a n c (sealed-accepted g serial a x) .0)

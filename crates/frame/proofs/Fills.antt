@@ -15,9 +15,9 @@ use Rattle.words.specs.Cases.{ifLe}
 use Rattle.words.specs.Digits.{word, digits, Digits}
 use Rattle.words.proofs.Laws.{word-append, word-low, word-digits, digits-add, digits-word, word-fits, length-digits}
 use Rattle.words.proofs.Cases.{le-case, gt-case}
-use Rattle.frame.specs.Blocks.{filled}
+use Rattle.frame.specs.Blocks.{fillOf, filled}
 use Rattle.frame.specs.Frames.{fillRight}
-use Rattle.frame.proofs.Laws.{padded-bytes, padded-eight, whole-filled, short-filled, word-zeros, first-bytes}
+use Rattle.frame.proofs.Laws.{padded-bytes, padded-eight, short-fill, whole-filled, short-filled, word-zeros, first-bytes}
 
 -- ---- made
 
@@ -51,10 +51,10 @@ past r w h =
     ∙ word-low 8 (8 - r) w
     ∙ ap (λ (k : ℕ). w % 2 ^ k) d
 
-mark : (r : ℕ) → r < 8 → word 8 (0x80 ∷ replicate (7 - r) 0) ≡ 2 ^ (63 - r * 8)
+mark : (r : ℕ) → r < 8 → word 8 (fillOf r) ≡ 2 ^ (63 - r * 8)
 mark r h =
     let d : 7 + 8 * (7 - r) ≡ 63 - r * 8 = omega arith in
-    word-zeros 8 0x80 (7 - r) ∙ sym (pow-add 2 7 (8 * (7 - r))) ∙ ap (λ (k : ℕ). 2 ^ k) d
+    ap (word 8) (sym (short-fill r h)) ∙ word-zeros 8 0x80 (7 - r) ∙ sym (pow-add 2 7 (8 * (7 - r))) ∙ ap (λ (k : ℕ). 2 ^ k) d
 
 pub fill-bits : (n w : ℕ) → fillRight n w ≡ ifLe (n % 8) 0 true (eqb (w % 2 ^ (64 - n % 8 * 8)) (2 ^ (63 - n % 8 * 8)))
 unfolding fillRight

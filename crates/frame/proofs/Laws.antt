@@ -1,14 +1,14 @@
 -- Laws of blocks and their fill.
 use mathlib.Core.Bool.{true}
 use mathlib.Core.Path.{_≡_, refl, sym, ap, _∙_}
-use mathlib.Core.List.{List, [], _∷_, _++_}
+use mathlib.Core.List.{List, [], _∷_, _++_, append-nil}
 use Prim.Native.Nat.{ℕ, zero, suc, _+_, _-_, _*_, _/_, _%_, _^_, _<_, _≤_}
 use native.Mathlib.Nat.{mul-zero, mul-suc, mul-one, mul-assoc, add-comm, add-zero, mod-eq-of-lt, lt-of-le-of-lt, le-add-right}
 use native.Mathlib.Omega.{arith}
 use borrow.Rule.Slice.PartMut.{putMid}
 use lib.Dec.{eqb, lit<}
 use native.Mathlib.Numerals.{add-one}
-use lib.ListN.{length, getD, take, drop, set, replicate, length-append, length-replicate}
+use lib.ListN.{length, getD, take, drop, set, replicate, length-append, length-replicate, length-take, length-drop}
 use lib.Pow.{pow-pos, pow-add}
 use lib.Seq.{take-suc-set, take-all, take-at, take-append-add, length-take-le, getD-take}
 use Rattle.words.specs.Lists.{upto, sum}
@@ -17,8 +17,8 @@ use Rattle.cells.proofs.Xor.{sum-same}
 use Rattle.words.specs.Cases.{ifLe}
 use Rattle.words.specs.Digits.{wordFrom, word, digits, Digits, none, more, laid}
 use Rattle.words.proofs.Laws.{word-append, word-fits, digits-append, grows, mid-turn, digits-add, length-digits, length-laid, laid-same}
-use Rattle.words.proofs.Cases.{le-case, gt-case}
-use Rattle.frame.specs.Blocks.{blocks, filled}
+use Rattle.words.proofs.Cases.{le-case, gt-case, by-lt}
+use Rattle.frame.specs.Blocks.{blocks, part, fillOf, filled, filling, purpose, openedPurpose}
 use Rattle.frame.specs.Frames.{fillRight}
 
 below-zeros : (m k : ℕ) → Digits m (replicate k 0)
@@ -38,26 +38,63 @@ padded-bytes {s} h = digits-append h (more (lit< tt) (below-zeros 8 (7 - length 
 pub padded-eight : (s : List ℕ) → length s < 8 → length (padded s) ≡ 8
 padded-eight s k = simp (length-append, length-replicate) (omega arith)
 
+-- what filling adds to n bytes: nothing to 8, to fewer byte 80 and then bytes 00
+whole-fill : (n : ℕ) → 8 ≤ n → [] ≡ fillOf n
+whole-fill n h = le-case 8 n _ _ h
+
+pub short-fill : (n : ℕ) → n < 8 → 0x80 ∷ replicate (7 - n) 0 ≡ fillOf n
+short-fill n h = gt-case 8 n _ _ h
+
 -- a part of 8 bytes is itself, a shorter one is filled
 pub whole-filled : (s : List ℕ) → 8 ≤ length s → s ≡ filled s
 unfolding filled
-whole-filled s h = le-case 8 (length s) _ _ h
+whole-filled s h = sym (append-nil s) ∙ ap (λ (l : List ℕ). s ++ l) (whole-fill (length s) h)
 
 pub short-filled : (s : List ℕ) → length s < 8 → padded s ≡ filled s
 unfolding filled
-short-filled s h = gt-case 8 (length s) _ _ h
+short-filled s h = ap (λ (l : List ℕ). s ++ l) (short-fill (length s) h)
+
+-- how many bytes filling adds to n bytes
+fill-size : (n : ℕ) → n ≤ 8 → length (fillOf n) ≡ 8 - n
+fill-size n h =
+    by-lt n 8 (λ l. ap length (sym (short-fill n l)) ∙ simp length-replicate (omega arith))
+    (λ l. ap length (sym (whole-fill n l)) ∙ omega arith)
 
 -- the fill, as the machine computes it
 pub fill-word : {s : List ℕ} → Digits 8 s → length s < 8
-    → (word 8 s * 256 % 2 ^ 64 + 128) * 2 ^ (8 * (7 - length s)) % 2 ^ 64 ≡ word 8 (filled s)
+    → (word 8 s * 256 % 2 ^ 64 + 128) * 2 ^ (8 * (8 - length s - 1)) % 2 ^ 64 ≡ word 8 (filled s)
 fill-word {s} h k =
     let zs : List ℕ = replicate (7 - length s) 0 in
     let x = word 8 s * 256 + 128 in
     let whole : wordFrom 8 x zs ≡ word 8 (padded s) = sym (word-append 8 0 s (128 ∷ zs)) in
     let fits : word 8 (padded s) < 2 ^ 64 = word-fits (padded-bytes h) (omega (arith, padded-eight s k)) in
     let under : x < 2 ^ 64 = lt-of-le-of-lt (grows 8 x zs) (rw whole fits) in
-    rw (mod-eq-of-lt (lt-of-le-of-lt (le-add-right (word 8 s * 256) 128) under), ← word-zeros 8 x (7 - length s), whole) (mod-eq-of-lt fits)
+    let left : 8 - length s - 1 ≡ 7 - length s = omega arith in
+    rw (left, mod-eq-of-lt (lt-of-le-of-lt (le-add-right (word 8 s * 256) 128) under), ← word-zeros 8 x (7 - length s), whole) (mod-eq-of-lt fits)
     ∙ ap (word 8) (short-filled s k)
+
+-- what filling answers
+pub fills : (s : List ℕ) (w k : ℕ) → length s ≤ 8 → w ≡ word 8 (filled s) → k ≡ 8 - length s → record { word = w; added = k } ≡ filling s
+fills s w k h e d = λ i. record { word = e i; added = (d ∙ sym (fill-size (length s) h)) i }
+
+-- the purpose of block i of some bytes, by how many there are
+by-length : (whole : ℕ) (s : List ℕ) (i : ℕ) → purpose whole (filling (part s i) .added) ≡ ifLe (i * 8 + 8) (length s) whole (whole + 1)
+unfolding purpose
+by-length whole s i =
+    let size : length (part s i) ≤ 8 = simp length-take (omega arith) in
+    let count = fill-size (length (part s i)) size in
+    by-lt (length s) (i * 8 + 8)
+    (λ l.
+    let short : length (part s i) < 8 = simp (length-take, length-drop) (omega arith) in
+    sym (gt-case (filling (part s i) .added) 0 whole (whole + 1) (omega arith)) ∙ gt-case (i * 8 + 8) (length s) whole (whole + 1) l)
+    (λ l.
+    let eight : 8 ≤ length (part s i) = simp (length-take, length-drop) (omega arith) in
+    sym (le-case (filling (part s i) .added) 0 whole (whole + 1) (omega arith)) ∙ le-case (i * 8 + 8) (length s) whole (whole + 1) l)
+
+-- so a message block has one purpose, from what filling adds to its part and from the message's length
+pub same-purpose : (m : List ℕ) (i : ℕ) → purpose 0 (filling (part m i) .added) ≡ openedPurpose (length m) i
+unfolding openedPurpose
+same-purpose m i = by-length 0 m i
 
 -- eight bytes go behind n blocks
 pub put-behind : (n : ℕ) (b t d out ys : List ℕ) → length b ≡ n * 8 → out ≡ b ++ drop (n * 8) d → ys ≡ t
@@ -146,4 +183,4 @@ only-filled (suc r) u w a g h = ap (λ (x : ℕ). ifLe (suc r) 0 a (g x)) (h (om
 pub fill-same : (n : ℕ) (f : ℕ → ℕ) (l : List ℕ) → take (blocks n) l ≡ upto (blocks n) f → fillRight n (getD l (n / 8) 0) ≡ fillRight n (f (n / 8))
 unfolding fillRight
 fill-same n f l e =
-    only-filled (n % 8) (getD l (n / 8) 0) (f (n / 8)) true (λ w. eqb (word 8 (drop (n % 8) (digits 8 8 w))) (word 8 (0x80 ∷ replicate (7 - n % 8) 0))) (λ h. word-at (blocks n) f l e (n / 8) (omega arith))
+    only-filled (n % 8) (getD l (n / 8) 0) (f (n / 8)) true (λ w. eqb (word 8 (drop (n % 8) (digits 8 8 w))) (word 8 (fillOf (n % 8)))) (λ h. word-at (blocks n) f l e (n / 8) (omega arith))

@@ -1,6 +1,6 @@
 -- What opening accepts was sealed, and what was sealed opening accepts: block by block, the engine under the turned schedule undoes the engine.
 use mathlib.Core.Bool.{true, false}
-use mathlib.Core.Path.{_≡_, refl, sym, ap, ap₂, subst, _∙_}
+use mathlib.Core.Path.{_≡_, sym, ap, ap₂, subst, _∙_}
 use mathlib.Core.List.{List, [], _++_, append-nil}
 use mathlib.Core.Logic.{inl, inr}
 use Prim.Native.Nat.{ℕ, suc, _+_, _-_, _*_, _/_, _%_, _^_, _<_, _≤_}
@@ -22,9 +22,9 @@ use Rattle.cipher.specs.Engine.{ScheduleBelow, turned}
 use Rattle.cipher.specs.declared.Schedule.{Schedule}
 use Rattle.cipher.proofs.Rounds.{turned-below}
 use Rattle.cipher.proofs.Demands.{word-below, word-undone, word-redone}
-use Rattle.frame.specs.Blocks.{blocks, part, filled, block, tweak, purpose}
+use Rattle.frame.specs.Blocks.{blocks, part, filled, block, tweak, openedPurpose}
 use Rattle.frame.specs.Frames.{frameEngine, tagOf, sealedSize, sealedBytes, openedBlock, openedMessage, fillRight, accepted, SealedFrom}
-use Rattle.frame.proofs.Laws.{whole-filled}
+use Rattle.frame.proofs.Laws.{whole-filled, same-purpose}
 use Rattle.frame.proofs.Fills.{fill-none, fill-made, fill-found, fill-again, fill-off, filled-fits}
 use Rattle.frame.proofs.Parts.{part-take, part-laid, part-behind, part-word, same-parts}
 
@@ -64,11 +64,13 @@ module _ {s : Schedule} (g : ScheduleBelow 4 s) (serial : ℕ) (a : List ℕ) wh
 
   -- the sealed bytes of a message of n bytes whose blocks are f 0, f 1, ..
   abbrev sealedAs : ℕ → (ℕ → ℕ) → List ℕ
-  sealedAs n f = laid (blocks n) (λ i. frameEngine s (tweak (purpose 0 n i) serial i) (f i)) ++ digits 8 8 (tagOf s serial a n (sum (blocks n) f))
+  sealedAs n f = laid (blocks n) (λ i. frameEngine s (tweak (openedPurpose n i) serial i) (f i)) ++ digits 8 8 (tagOf s serial a n (sum (blocks n) f))
 
   sealed-as : (m : List ℕ) → sealedBytes s serial a m ≡ sealedAs (length m) (block m)
   unfolding sealedBytes
-  sealed-as m = refl
+  sealed-as m =
+      ap (λ (b : List ℕ). b ++ digits 8 8 (tagOf s serial a (length m) (sum (blocks (length m)) (block m))))
+      (laid-same (blocks (length m)) (λ i h. ap (λ (p : ℕ). frameEngine s (tweak p serial i) (block m i)) (same-purpose m i)))
 
   size-as : (n : ℕ) (f : ℕ → ℕ) → length (sealedAs n f) ≡ sealedSize n
   size-as n f = rw (length-append, length-laid, length-digits)
@@ -114,14 +116,14 @@ module _ {s : Schedule} (g : ScheduleBelow 4 s) (serial : ℕ) (a : List ℕ) wh
 
     block-part : (i : ℕ) → i < blocks n → part (sealedAs n f) i ≡ part c i
     block-part i h =
-        part-laid (blocks n) (λ j. frameEngine s (tweak (purpose 0 n j) serial j) (f j)) (digits 8 8 (tagOf s serial a n (sum (blocks n) f))) i h
-        ∙ ap (digits 8 8) (word-redone lawful64 1 7 (omega arith) g (tweak (purpose 0 n i) serial i) (part-fits i))
+        part-laid (blocks n) (λ j. frameEngine s (tweak (openedPurpose n j) serial j) (f j)) (digits 8 8 (tagOf s serial a n (sum (blocks n) f))) i h
+        ∙ ap (digits 8 8) (word-redone lawful64 1 7 (omega arith) g (tweak (openedPurpose n i) serial i) (part-fits i))
         ∙ part-word i hc (omega arith)
 
     tag-part : (i : ℕ) → i ≡ blocks n → part (sealedAs n f) i ≡ part c i
     tag-part i e =
         ap (part (sealedAs n f)) e
-        ∙ part-behind (blocks n) (λ j. frameEngine s (tweak (purpose 0 n j) serial j) (f j)) (tagOf s serial a n (sum (blocks n) f))
+        ∙ part-behind (blocks n) (λ j. frameEngine s (tweak (openedPurpose n j) serial j) (f j)) (tagOf s serial a n (sum (blocks n) f))
         ∙ ap (digits 8 8) (accepted-both n c yes .1)
         ∙ part-word (blocks n) hc (omega arith)
         ∙ ap (part c) (sym e)
@@ -135,7 +137,7 @@ module _ {s : Schedule} (g : ScheduleBelow 4 s) (serial : ℕ) (a : List ℕ) wh
 
     blocks-back : sealedAs n (block m) ≡ sealedAs n f
     blocks-back =
-        ap₂ _++_ (laid-same (blocks n) (λ i h. ap (frameEngine s (tweak (purpose 0 n i) serial i)) (block-back i h)))
+        ap₂ _++_ (laid-same (blocks n) (λ i h. ap (frameEngine s (tweak (openedPurpose n i) serial i)) (block-back i h)))
         (ap (λ (x : ℕ). digits 8 8 (tagOf s serial a n x)) (sum-same (blocks n) block-back))
 
     pub accepted-sealed : SealedFrom s serial a n c
@@ -165,8 +167,8 @@ module _ {s : Schedule} (g : ScheduleBelow 4 s) (serial : ℕ) (a : List ℕ) wh
 
     opened-block : (i : ℕ) → i < blocks n → deciphered i ≡ block m i
     opened-block i h =
-        let t = tweak (purpose 0 n i) serial i in
-        ap (λ (p : List ℕ). frameEngine u t (word 8 p)) (part-laid (blocks n) (λ j. frameEngine s (tweak (purpose 0 n j) serial j) (block m j)) (digits 8 8 (tagOf s serial a n (sum (blocks n) (block m)))) i h)
+        let t = tweak (openedPurpose n i) serial i in
+        ap (λ (p : List ℕ). frameEngine u t (word 8 p)) (part-laid (blocks n) (λ j. frameEngine s (tweak (openedPurpose n j) serial j) (block m j)) (digits 8 8 (tagOf s serial a n (sum (blocks n) (block m)))) i h)
         ∙ ap (frameEngine u t) (word-digits 8 8 (frameEngine s t (block m i)) (enciphered-below t (block m i)))
         ∙ word-undone lawful64 1 7 (omega arith) g t (filled-fits (part-bytes i hm) (part-size m i))
 
@@ -181,7 +183,7 @@ module _ {s : Schedule} (g : ScheduleBelow 4 s) (serial : ℕ) (a : List ℕ) wh
         eq-eqb _ _
         (ap (tagOf s serial a n) (sum-same (blocks n) opened-block)
         ∙ sym (word-digits 8 8 w (tag-below n _))
-        ∙ ap (word 8) (sym (part-behind (blocks n) (λ j. frameEngine s (tweak (purpose 0 n j) serial j) (block m j)) w)))
+        ∙ ap (word 8) (sym (part-behind (blocks n) (λ j. frameEngine s (tweak (openedPurpose n j) serial j) (block m j)) w)))
 
     accepted-as : accepted s serial a n c ≡ true
     unfolding accepted

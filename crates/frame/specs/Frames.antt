@@ -1,10 +1,10 @@
 -- Document 01, "Sealing and opening": the tag, the sealed bytes, and what sealing and opening answer and leave.
 use mathlib.Core.Bool.{Bool, true, false}
 use mathlib.Core.Path.{_≡_}
-use mathlib.Core.List.{List, _∷_, _++_}
+use mathlib.Core.List.{List, _++_}
 use Prim.Native.Nat.{ℕ, _+_, _-_, _*_, _/_, _%_, _^_, _≤_}
 use lib.Dec.{eqb}
-use lib.ListN.{length, take, drop, replicate}
+use lib.ListN.{length, take, drop}
 use Rattle.words.specs.Cases.{ifLe, ifYes}
 use Rattle.words.specs.Digits.{_⊕_, word, digits, Digits, laid}
 use Rattle.refusals.specs.declared.Answer.{Answer}
@@ -16,7 +16,7 @@ use Rattle.cells64.specs.Qarma64.{qarma64}
 use Rattle.cipher.specs.Engine.{keySchedule, turned}
 use Rattle.cipher.specs.Numbers.{engineWord}
 use Rattle.cipher.specs.declared.Schedule.{Schedule}
-use Rattle.frame.specs.Blocks.{blocks, part, block, tweak, purpose, tagPurpose}
+use Rattle.frame.specs.Blocks.{blocks, part, fillOf, filling, block, tweak, purpose, openedPurpose, tagPurpose}
 
 -- Document 01, "Sizes": "Frames use box 1 and r = 7." The label is called a here, the sealed bytes c, and n is the length of the message.
 abbrev pub frameEngine : Schedule → ℕ → ℕ → ℕ
@@ -24,7 +24,7 @@ frameEngine s t p = engineWord qarma64 1 7 s t p
 
 -- "The index is the block's number from 0"; "Each message block is enciphered under its tweak.": block i of some bytes, by the purpose of a whole one
 abbrev pub sealedBlock : Schedule → ℕ → ℕ → List ℕ → ℕ → ℕ
-sealedBlock s whole serial x i = frameEngine s (tweak (purpose whole (length x) i) serial i) (block x i)
+sealedBlock s whole serial x i = frameEngine s (tweak (purpose whole (filling (part x i) .added)) serial i) (block x i)
 
 -- "the sum of all enciphered label blocks (zero if none)"
 abbrev pub labelSum : Schedule → ℕ → List ℕ → ℕ
@@ -71,7 +71,7 @@ sealing w0 k0 serial a m out = limited serial a (length m) out (giving (sealedBy
 
 -- "Opening is told the message length.": block i of the sealed bytes c of a message of n bytes, under the turned schedule u
 abbrev pub openedBlock : Schedule → ℕ → ℕ → List ℕ → ℕ → ℕ
-openedBlock u serial n c i = frameEngine u (tweak (purpose 0 n i) serial i) (word 8 (part c i))
+openedBlock u serial n c i = frameEngine u (tweak (openedPurpose n i) serial i) (word 8 (part c i))
 
 -- "the first bytes up to the message length"
 abbrev pub openedMessage : Schedule → ℕ → ℕ → List ℕ → List ℕ
@@ -79,7 +79,7 @@ openedMessage u serial n c = take n (laid (blocks n) (openedBlock u serial n c))
 
 -- "for a filled last block, the bytes past the length are exactly 80 and then 00s": the last block w of n bytes
 unfoldable pub fillRight : ℕ → ℕ → Bool
-fillRight n w = ifLe (n % 8) 0 true (eqb (word 8 (drop (n % 8) (digits 8 8 w))) (word 8 (0x80 ∷ replicate (7 - n % 8) 0)))
+fillRight n w = ifLe (n % 8) 0 true (eqb (word 8 (drop (n % 8) (digits 8 8 w))) (word 8 (fillOf (n % 8))))
 
 -- "It accepts when the tag agrees and, for a filled last block, .."
 unfoldable pub accepted : Schedule → ℕ → List ℕ → ℕ → List ℕ → Bool

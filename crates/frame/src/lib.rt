@@ -7,11 +7,12 @@ ghost use Prim.Native.Nat.{_+_, _*_, _/_, _^_, _<_, _≤_};
 ghost use mathlib.Core.List.{_++_};
 ghost use lib.Dec.{eqb};
 ghost use lib.ListN.{length, getD, take, drop};
-ghost use Rattle.words.specs.Digits.{word, laid};
+ghost use Rattle.words.specs.Digits.{laid};
 ghost use Rattle.words.specs.Lists.{sum, upto};
 ghost use Rattle.cipher.specs.Engine.{ScheduleBelow, turned};
-ghost use Rattle.frame.specs.Blocks.{blocks, filled, block, tweak, purpose, tagPurpose};
-ghost use Rattle.frame.specs.Frames.{frameEngine, sealedBlock, labelSum, tagOf, sealedSize, sealedBytes, sealing, openedBlock, fillRight, accepted, opening};
+ghost use Rattle.frame.specs.Blocks.{blocks, part, filling, block, tweak, openedPurpose, tagPurpose};
+ghost use Rattle.frame.specs.Frames.{frameEngine, labelSum, tagOf, sealedSize, sealedBytes, sealing, openedBlock, fillRight, accepted, opening};
+ghost use Rattle.frame.specs.Workings.{encipheredBlock, blocksPut};
 ghost use Rattle.cells64.specs.Qarma64.{qarma64};
 
 // The limits of a frame: bytes of a message, bytes of a label, and the highest serial.
@@ -29,42 +30,6 @@ pub fn sealed_size(n: usize) -> usize
     (n + 7) / 8 * 8 + 8
 }
 
-// A part of 1 to 8 bytes as a word, filled if it is short.
-fn fill(part: &[u8]) -> u64
-    requires { ⌜ (1 ≤ length (now part)) × (length (now part) ≤ 8) ⌝ }
-    ensures { λ r. ⌜ r ≡ word 8 (filled (now (part .entry))) ⌝ }
-{
-    let n = part.len();
-    let x = words::read(part, 8);
-    if n == 8 {
-        return x;
-    }
-    ((x << 8) + 0x80) << (8 * (7 - n))
-}
-
-// Block i of some bytes as a word.
-fn block_at(s: &[u8], i: usize) -> u64
-    requires { ⌜ (length (now s) ≤ 1024) × (i < blocks (length (now s))) ⌝ }
-    ensures { λ r. ⌜ r ≡ block (now (s .entry)) i ⌝ }
-{
-    let at = i * 8;
-    if s.len() < at + 8 {
-        return fill(&s[at..]);
-    }
-    fill(&s[at..at + 8])
-}
-
-// The purpose of block i of n bytes, from the purpose of a whole one.
-fn block_purpose(whole: u64, n: usize, i: usize) -> u64
-    requires { ⌜ (whole < 4) × (i < 128) ⌝ }
-    ensures { λ r. ⌜ (r ≡ purpose whole n i) × (r < 5) ⌝ }
-{
-    if i * 8 + 8 <= n {
-        return whole;
-    }
-    whole + 1
-}
-
 // The purpose of the tag of a message of n bytes.
 fn tag_purpose(n: usize) -> u64
     ensures { λ r. ⌜ (r ≡ tagPurpose n) × (r < 6) ⌝ }
@@ -76,11 +41,11 @@ fn tag_purpose(n: usize) -> u64
 }
 
 // A tweak: purpose, serial, index.
-fn tweak_of(what: u64, serial: u64, index: u64) -> u64
-    requires { ⌜ (what < 16) × ((serial < 2 ^ 44) × (index < 2 ^ 16)) ⌝ }
-    ensures { λ r. ⌜ r ≡ tweak what serial index ⌝ }
+fn tweak_of(purpose: u64, serial: u64, index: u64) -> u64
+    requires { ⌜ (purpose < 16) × ((serial < 2 ^ 44) × (index < 2 ^ 16)) ⌝ }
+    ensures { λ r. ⌜ r ≡ tweak purpose serial index ⌝ }
 {
-    what * 0x1000000000000000 + serial * 0x10000 + index
+    purpose * 0x1000000000000000 + serial * 0x10000 + index
 }
 
 // The engine with box 1 and r = 7: under a schedule it enciphers a block, under the turned one it deciphers it.
@@ -91,28 +56,57 @@ fn engine(s: Schedule, t: u64, p: u64) -> u64
     cells64::word(cipher64::engine_on_cells(s, 1, 7, cells64::of(t), cells64::of(p)))
 }
 
-// Block i of some bytes enciphered, by the purpose of a whole one.
-fn seal_block(s: Schedule, whole: u64, serial: u64, bytes: &[u8], i: usize) -> u64
-    requires { ⌜ (ScheduleBelow 4 s × (whole < 4)) × ((serial < 2 ^ 44) × ((length (now bytes) ≤ 1024) × (i < blocks (length (now bytes))))) ⌝ }
-    ensures { λ r. ⌜ r ≡ sealedBlock s whole serial (now (bytes .entry)) i ⌝ }
-{
-    let t = tweak_of(block_purpose(whole, bytes.len(), i), serial, i as u64);
-    engine(s, t, block_at(bytes, i))
+// What filling answers: the word, and how many bytes were added, 0 to 7.
+struct Filled {
+    word: u64,
+    added: usize,
 }
 
-// The sum of the blocks of some bytes.
-fn sum_blocks(bytes: &[u8]) -> u64
-    requires { ⌜ length (now bytes) ≤ 1024 ⌝ }
-    ensures { λ r. ⌜ r ≡ sum (blocks (length (now (bytes .entry)))) (block (now (bytes .entry))) ⌝ }
+// A part of 1 to 8 bytes as a word, filled if it is short, and how many bytes that added.
+fn fill(part: &[u8]) -> Filled
+    requires { ⌜ (1 ≤ length (now part)) × (length (now part) ≤ 8) ⌝ }
+    ensures { λ r. ⌜ (r ≡ filling (now (part .entry))) × (r .added < 8) ⌝ }
 {
-    let n = (bytes.len() + 7) / 8;
-    let mut total = 0;
-    let mut i = 0;
-    while i < n {
-        total ^= block_at(bytes, i);
-        i += 1;
+    let added = 8 - part.len();
+    let x = words::read(part, 8);
+    let w = if added == 0 {
+        x
+    } else {
+        ((x << 8) + 0x80) << (8 * (added - 1))
+    };
+    Filled { word: w, added }
+}
+
+// The same for block i of some bytes.
+fn fill_block(bytes: &[u8], i: usize) -> Filled
+    requires { ⌜ (length (now bytes) ≤ 1024) × (i < blocks (length (now bytes))) ⌝ }
+    ensures { λ r. ⌜ r ≡ filling (part (now (bytes .entry)) i) ⌝ }
+{
+    let at = i * 8;
+    if bytes.len() < at + 8 {
+        return fill(&bytes[at..]);
     }
-    total
+    fill(&bytes[at..at + 8])
+}
+
+// A block as a word, filled if it was short, and the word that it is enciphered to.
+struct Enciphered {
+    from: u64,
+    to: u64,
+}
+
+// Block i of some bytes enciphered, by the purpose of a whole one. Here it is filled, and its purpose chosen: from how many bytes that added, and from nothing else.
+fn seal_block(s: Schedule, whole: u64, serial: u64, bytes: &[u8], i: usize) -> Enciphered
+    requires { ⌜ (ScheduleBelow 4 s × (whole < 4)) × ((serial < 2 ^ 44) × ((length (now bytes) ≤ 1024) × (i < blocks (length (now bytes))))) ⌝ }
+    ensures { λ r. ⌜ r ≡ encipheredBlock s whole serial (now (bytes .entry)) i ⌝ }
+{
+    let block = fill_block(bytes, i);
+    let purpose = if block.added == 0 { whole } else { whole + 1 };
+    let w = engine(s, tweak_of(purpose, serial, i as u64), block.word);
+    Enciphered {
+        from: block.word,
+        to: w,
+    }
 }
 
 // The sum of the enciphered blocks of a label.
@@ -124,7 +118,8 @@ fn sum_label(s: Schedule, serial: u64, label: &[u8]) -> u64
     let mut total = 0;
     let mut i = 0;
     while i < n {
-        total ^= seal_block(s, 2, serial, label, i);
+        let block = seal_block(s, 2, serial, label, i);
+        total ^= block.to;
         i += 1;
     }
     total
@@ -140,19 +135,22 @@ fn tag(s: Schedule, serial: u64, label: &[u8], n: usize, message_sum: u64) -> u6
     engine(s, t, message_sum) ^ sum_label(s, serial, label)
 }
 
-// Writes each enciphered block of a message into its own place of out.
-fn put_blocks(s: Schedule, serial: u64, message: &[u8], out: &mut [u8])
+// Writes each enciphered block of a message into its own place of out, and answers the sum of the blocks.
+fn put_blocks(s: Schedule, serial: u64, message: &[u8], out: &mut [u8]) -> u64
     requires { ⌜ (ScheduleBelow 4 s × (serial < 2 ^ 44)) × ((length (now message) ≤ 1024) × (blocks (length (now message)) * 8 ≤ length (now out))) ⌝ }
-    ensures { λ _. ⌜ now (out .exit) ≡ laid (blocks (length (now (message .entry)))) (sealedBlock s 0 serial (now (message .entry))) ++ drop (blocks (length (now (message .entry))) * 8) (now (out .entry)) ⌝ }
+    ensures { λ r. ⌜ (r, now (out .exit)) ≡ blocksPut s serial (now (message .entry)) (now (out .entry)) ⌝ }
 {
     let n = (message.len() + 7) / 8;
+    let mut total = 0;
     let mut i = 0;
     while i < n {
         let at = i * 8;
-        let w = seal_block(s, 0, serial, message, i);
-        words::write(&mut out[at..at + 8], 8, w);
+        let block = seal_block(s, 0, serial, message, i);
+        words::write(&mut out[at..at + 8], 8, block.to);
+        total ^= block.from;
         i += 1;
     }
+    total
 }
 
 // Writes the sealed bytes of a message into the first bytes of out.
@@ -160,10 +158,21 @@ fn put_sealed(s: Schedule, serial: u64, label: &[u8], message: &[u8], out: &mut 
     requires { ⌜ (ScheduleBelow 4 s × (serial < 2 ^ 44)) × ((length (now label) ≤ 32) × ((length (now message) ≤ 1024) × (sealedSize (length (now message)) ≤ length (now out)))) ⌝ }
     ensures { λ _. ⌜ now (out .exit) ≡ sealedBytes s serial (now (label .entry)) (now (message .entry)) ++ drop (sealedSize (length (now (message .entry)))) (now (out .entry)) ⌝ }
 {
-    put_blocks(s, serial, message, out);
+    let total = put_blocks(s, serial, message, out);
     let behind = (message.len() + 7) / 8 * 8;
-    let w = tag(s, serial, label, message.len(), sum_blocks(message));
+    let w = tag(s, serial, label, message.len(), total);
     words::write(&mut out[behind..behind + 8], 8, w);
+}
+
+// The purpose of block i of a message of n bytes that is to be opened: there is no plain block yet.
+fn opened_purpose(n: usize, i: usize) -> u64
+    requires { ⌜ i < 128 ⌝ }
+    ensures { λ r. ⌜ (r ≡ openedPurpose n i) × (r < 2) ⌝ }
+{
+    if n < i * 8 + 8 {
+        return 1;
+    }
+    0
 }
 
 // Block i of the sealed bytes of a message of n bytes, deciphered under the turned schedule.
@@ -171,7 +180,7 @@ fn open_block(u: Schedule, serial: u64, n: usize, sealed: &[u8], i: usize) -> u6
     requires { ⌜ (ScheduleBelow 4 u × (serial < 2 ^ 44)) × ((n ≤ 1024) × ((i < blocks n) × (i * 8 + 8 ≤ length (now sealed)))) ⌝ }
     ensures { λ r. ⌜ r ≡ openedBlock u serial n (now (sealed .entry)) i ⌝ }
 {
-    let t = tweak_of(block_purpose(0, n, i), serial, i as u64);
+    let t = tweak_of(opened_purpose(n, i), serial, i as u64);
     let at = i * 8;
     engine(u, t, words::read(&sealed[at..at + 8], 8))
 }

@@ -27,5 +27,5 @@ open-block-spec =
     let args = c .before .before .before .before .before .before .args in
     let at = args .i * 8 in
     let e : at + 8 - at ≡ 8 = omega arith in
-    let t = c .before .before .before .tweak-of .ensures ∙ ap (λ (p : ℕ). tweak p (args .serial) (args .i)) (c .before .before .before .before .block-purpose .ensures .0) in
+    let t = c .before .before .before .tweak-of .ensures ∙ ap (λ (p : ℕ). tweak p (args .serial) (args .i)) (c .before .before .before .before .opened-purpose .ensures .0) in
     c .engine .ensures ∙ ap₂ (frameEngine (args .u)) t (rw e at (c .before .read .ensures))))

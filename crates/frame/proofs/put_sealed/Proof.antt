@@ -21,7 +21,6 @@ put-sealed-spec =
     (λ c. search needs)
     (λ c. search needs)
     (λ c κs. search needs)
-    (λ c κs. search needs)
     (λ c. search needs)
     (λ c. search needs)
     (λ c. search needs)
@@ -29,12 +28,13 @@ put-sealed-spec =
     (λ c κs. search needs)
     (λ c. search needs)
     (λ c.
-    let args = c .before .before .before .before .before .before .before .before .before .before .before .before .before .args in
+    let args = c .before .before .before .before .before .before .before .before .before .before .before .before .args in
     let n = blocks (length (args .message .now)) in
-    let put = c .before .before .before .before .before .before .before .before in
-    let out = put .put-blocks .last .1 .1 .1 .0 in
+    let put = c .before .before .before .before .before .before .before .put-blocks in
+    let out = put .last .1 .1 .1 .0 in
     let f = sealedBlock (args .s) 0 (args .serial) (args .message .now) in
     let eight = middle (n * 8) 8 (n * 8 + 8) out refl (omega arith) in
-    let made = c .before .before .before .before .tag .ensures ∙ ap (tagOf (args .s) (args .serial) (args .label .now) (length (args .message .now))) (c .before .before .before .before .before .sum-blocks .ensures) in
-    let bytes = c .before .before .write .ensures ∙ ap (λ (k : ℕ). digits 8 k (c .before .before .before .before .tag .result)) eight ∙ ap (digits 8 8) made in
-    put-behind n (laid n f) _ (args .out .now) out (c .before .before .write .last .0) (length-laid n f) (put .put-blocks .ensures) bytes))
+    let tag = c .before .before .before .before .tag in
+    let made = tag .ensures ∙ ap (tagOf (args .s) (args .serial) (args .label .now) (length (args .message .now))) (λ i. put .ensures i .0) in
+    let bytes = c .before .before .write .ensures ∙ ap (λ (k : ℕ). digits 8 k (tag .result)) eight ∙ ap (digits 8 8) made in
+    put-behind n (laid n f) _ (args .out .now) out (c .before .before .write .last .0) (length-laid n f) (λ i. put .ensures i .1) bytes))

@@ -1,6 +1,6 @@
 -- `sum_label` meets its contract: the loop sums the first i terms.
 use borrow.Author.Needs.{needs}
-use mathlib.Core.Path.{_≡_, refl, ap₂}
+use mathlib.Core.Path.{_≡_, refl, ap, ap₂}
 use Prim.Native.Nat.{_+_, _-_, _/_, _≤_}
 use native.Mathlib.Numerals.{add-one}
 use native.Mathlib.Omega.{arith}
@@ -8,6 +8,7 @@ use lib.ListN.{length}
 use Rattle.words.specs.Digits.{_⊕_}
 use Rattle.words.specs.Lists.{sum}
 use Rattle.frame.specs.Frames.{sealedBlock}
+use Rattle.frame.specs.declared.Enciphered.{Enciphered}
 use Rattle.frame.proofs.sum_label.Statement.{statement}
 use Rattle.frame.proofs.sum_label.Tie as tie
 
@@ -22,7 +23,7 @@ sum-label-spec =
     (λ c κs. search needs)
     (λ c. omega arith)
     (λ c. omega arith)
-    (λ c. (c .before .before .loop .inv .0, omega arith, rw add-one (ap₂ _⊕_ (c .before .before .loop .inv .2) (c .seal-block .ensures))))
+    (λ c. (c .before .before .before .loop .inv .0, omega arith, rw add-one (ap₂ _⊕_ (c .before .before .before .loop .inv .2) (ap (λ (b : Enciphered). b .to) (c .before .seal-block .ensures)))))
     (λ c.
     let e : c .before .loop .i ≡ (length (c .before .before .before .args .label .now) + 7) / 8 = omega arith in
     rw e at (c .before .loop .inv .2)))
