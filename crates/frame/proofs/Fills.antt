@@ -2,22 +2,21 @@
 use mathlib.Core.Bool.{true}
 use mathlib.Core.Path.{_≡_, refl, sym, ap, ap₂, subst, _∙_}
 use mathlib.Core.List.{List, _∷_}
-use mathlib.Core.Logic.{inl, inr}
 use Prim.Native.Nat.{ℕ, _+_, _-_, _*_, _/_, _%_, _^_, _<_, _≤_}
-use native.Mathlib.Nat.{add-mul, mul-assoc, eq-or-lt-of-le}
+use native.Mathlib.Nat.{add-mul, mul-assoc}
 use native.Mathlib.Omega.{arith}
 use borrow.Author.Tests.{eq-eqb, eqb-true}
 use lib.Dec.{eqb}
 use lib.ListN.{length, take, drop, replicate}
 use lib.Pow.{pow-add, pow-lt, shr-lt, split, low}
-use lib.Seq.{take-at, drop-at, take-length, length-take-le}
+use lib.Seq.{take-at, drop-at, length-take-le}
 use Rattle.words.specs.Cases.{ifLe}
 use Rattle.words.specs.Digits.{word, digits, Digits}
-use Rattle.words.proofs.Laws.{word-append, word-low, word-digits, digits-add, digits-word, word-fits, length-digits}
+use Rattle.words.proofs.Laws.{word-append, word-low, word-digits, digits-add, digits-word, length-digits}
 use Rattle.words.proofs.Cases.{le-case, gt-case}
 use Rattle.frame.specs.Blocks.{fillOf, filled}
 use Rattle.frame.specs.Frames.{fillRight}
-use Rattle.frame.proofs.Laws.{padded-bytes, padded-eight, short-fill, whole-filled, short-filled, word-zeros, first-bytes}
+use Rattle.frame.proofs.Laws.{filled-bytes, filled-eight, short-fill, short-filled, word-zeros, first-bytes}
 
 -- ---- made
 
@@ -90,24 +89,10 @@ fill-again r w h l e =
 
 -- ---- taken off
 
-filled-bytes : {p : List ℕ} → Digits 8 p → length p ≤ 8 → Digits 8 (filled p) × (length (filled p) ≡ 8)
-filled-bytes {p} h l =
-    elim (eq-or-lt-of-le {n = length p} {m = 8} l) [
-      | inl e ↦ subst (λ (x : List ℕ). Digits 8 x × (length x ≡ 8)) (whole-filled p (omega arith)) (h, e)
-      | inr k ↦ subst (λ (x : List ℕ). Digits 8 x × (length x ≡ 8)) (short-filled p k) (padded-bytes h, padded-eight p k)
-    ]
-
-pub filled-fits : {p : List ℕ} → Digits 8 p → length p ≤ 8 → word 8 (filled p) < 2 ^ 64
-filled-fits {p} h l = word-fits (filled-bytes h l .0) (omega (arith, filled-bytes h l .1))
-
-take-filled : (p : List ℕ) → length p ≤ 8 → take (length p) (filled p) ≡ p
-take-filled p l =
-    elim (eq-or-lt-of-le {n = length p} {m = 8} l) [
-      | inl e ↦ ap (take (length p)) (sym (whole-filled p (omega arith))) ∙ take-length p
-      | inr k ↦ ap (take (length p)) (sym (short-filled p k)) ∙ take-at p (0x80 ∷ replicate (7 - length p) 0) (length p) refl
-    ]
+take-filled : (p : List ℕ) → take (length p) (filled p) ≡ p
+unfolding filled
+take-filled p = take-at p (fillOf (length p)) (length p) refl
 
 pub fill-off : {p : List ℕ} → Digits 8 p → length p ≤ 8 → take (length p) (digits 8 8 (word 8 (filled p))) ≡ p
 fill-off {p} h l =
-    let b = filled-bytes h l in
-    ap (take (length p)) (ap (λ (k : ℕ). digits 8 k (word 8 (filled p))) (sym (b .1)) ∙ digits-word (b .0)) ∙ take-filled p l
+    ap (take (length p)) (ap (λ (k : ℕ). digits 8 k (word 8 (filled p))) (sym (filled-eight p l)) ∙ digits-word (filled-bytes h)) ∙ take-filled p

@@ -17,7 +17,7 @@ use Rattle.cells.proofs.Xor.{sum-same}
 use Rattle.words.specs.Cases.{ifLe}
 use Rattle.words.specs.Digits.{wordFrom, word, digits, Digits, none, more, laid}
 use Rattle.words.proofs.Laws.{word-append, word-fits, digits-append, grows, mid-turn, digits-add, length-digits, length-laid, laid-same}
-use Rattle.words.proofs.Cases.{le-case, gt-case, by-lt}
+use Rattle.words.proofs.Cases.{le-case, gt-case, le-either, by-lt}
 use Rattle.frame.specs.Blocks.{blocks, part, fillOf, filled, filling, purpose, openedPurpose}
 use Rattle.frame.specs.Frames.{fillRight}
 
@@ -28,15 +28,6 @@ below-zeros m (suc k) = more (pow-pos m) (below-zeros m k)
 pub word-zeros : (m a k : ℕ) → wordFrom m a (replicate k 0) ≡ a * 2 ^ (m * k)
 word-zeros m a zero = sym (rw (mul-zero, mul-one))
 word-zeros m a (suc k) = word-zeros m (a * 2 ^ m + 0) k ∙ rw (add-zero, mul-assoc, ← pow-add, mul-suc, add-comm m (m * k))
-
-abbrev pub padded : List ℕ → List ℕ
-padded s = s ++ 0x80 ∷ replicate (7 - length s) 0
-
-pub padded-bytes : {s : List ℕ} → Digits 8 s → Digits 8 (padded s)
-padded-bytes {s} h = digits-append h (more (lit< tt) (below-zeros 8 (7 - length s)))
-
-pub padded-eight : (s : List ℕ) → length s < 8 → length (padded s) ≡ 8
-padded-eight s k = simp (length-append, length-replicate) (omega arith)
 
 -- what filling adds to n bytes: nothing to 8, to fewer byte 80 and then bytes 00
 whole-fill : (n : ℕ) → 8 ≤ n → [] ≡ fillOf n
@@ -50,7 +41,7 @@ pub whole-filled : (s : List ℕ) → 8 ≤ length s → s ≡ filled s
 unfolding filled
 whole-filled s h = sym (append-nil s) ∙ ap (λ (l : List ℕ). s ++ l) (whole-fill (length s) h)
 
-pub short-filled : (s : List ℕ) → length s < 8 → padded s ≡ filled s
+pub short-filled : (s : List ℕ) → length s < 8 → s ++ 0x80 ∷ replicate (7 - length s) 0 ≡ filled s
 unfolding filled
 short-filled s h = ap (λ (l : List ℕ). s ++ l) (short-fill (length s) h)
 
@@ -60,18 +51,29 @@ fill-size n h =
     by-lt n 8 (λ l. ap length (sym (short-fill n l)) ∙ simp length-replicate (omega arith))
     (λ l. ap length (sym (whole-fill n l)) ∙ omega arith)
 
+-- a part filled is eight bytes
+pub filled-bytes : {s : List ℕ} → Digits 8 s → Digits 8 (filled s)
+unfolding filled
+filled-bytes {s} h = digits-append h (le-either (Digits 8) 8 (length s) none (more (lit< tt) (below-zeros 8 (7 - length s))))
+
+pub filled-eight : (s : List ℕ) → length s ≤ 8 → length (filled s) ≡ 8
+unfolding filled
+filled-eight s h = length-append s (fillOf (length s)) ∙ omega (arith, fill-size (length s) h)
+
+pub filled-fits : {s : List ℕ} → Digits 8 s → length s ≤ 8 → word 8 (filled s) < 2 ^ 64
+filled-fits {s} h l = word-fits (filled-bytes h) (omega (arith, filled-eight s l))
+
 -- the fill, as the machine computes it
 pub fill-word : {s : List ℕ} → Digits 8 s → length s < 8
     → (word 8 s * 256 % 2 ^ 64 + 128) * 2 ^ (8 * (8 - length s - 1)) % 2 ^ 64 ≡ word 8 (filled s)
 fill-word {s} h k =
     let zs : List ℕ = replicate (7 - length s) 0 in
     let x = word 8 s * 256 + 128 in
-    let whole : wordFrom 8 x zs ≡ word 8 (padded s) = sym (word-append 8 0 s (128 ∷ zs)) in
-    let fits : word 8 (padded s) < 2 ^ 64 = word-fits (padded-bytes h) (omega (arith, padded-eight s k)) in
+    let whole : wordFrom 8 x zs ≡ word 8 (filled s) = sym (word-append 8 0 s (128 ∷ zs)) ∙ ap (word 8) (short-filled s k) in
+    let fits : word 8 (filled s) < 2 ^ 64 = filled-fits h (omega arith) in
     let under : x < 2 ^ 64 = lt-of-le-of-lt (grows 8 x zs) (rw whole fits) in
     let left : 8 - length s - 1 ≡ 7 - length s = omega arith in
     rw (left, mod-eq-of-lt (lt-of-le-of-lt (le-add-right (word 8 s * 256) 128) under), ← word-zeros 8 x (7 - length s), whole) (mod-eq-of-lt fits)
-    ∙ ap (word 8) (short-filled s k)
 
 -- what filling answers
 pub fills : (s : List ℕ) (w k : ℕ) → length s ≤ 8 → w ≡ word 8 (filled s) → k ≡ 8 - length s → record { word = w; added = k } ≡ filling s

@@ -24,8 +24,8 @@ use Rattle.cipher.proofs.Rounds.{turned-below}
 use Rattle.cipher.proofs.Demands.{word-below, word-undone, word-redone}
 use Rattle.frame.specs.Blocks.{blocks, part, filled, block, tweak, openedPurpose}
 use Rattle.frame.specs.Frames.{frameEngine, tagOf, sealedSize, sealedBytes, openedBlock, openedMessage, fillRight, accepted, SealedFrom}
-use Rattle.frame.proofs.Laws.{whole-filled, same-purpose}
-use Rattle.frame.proofs.Fills.{fill-none, fill-made, fill-found, fill-again, fill-off, filled-fits}
+use Rattle.frame.proofs.Laws.{whole-filled, filled-fits, same-purpose}
+use Rattle.frame.proofs.Fills.{fill-none, fill-made, fill-found, fill-again, fill-off}
 use Rattle.frame.proofs.Parts.{part-take, part-laid, part-behind, part-word, same-parts}
 
 part-size : (l : List ℕ) (i : ℕ) → length (part l i) ≤ 8
