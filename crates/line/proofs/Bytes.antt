@@ -1,5 +1,10 @@
 -- The bytes that a line's digits stand for.
-use Rattle.std.proofs.Common.{◌≡◌, ℕ, zero, suc, ◌+◌, ◌*◌, ◌≤◌, List, [], ◌∷◌, length, get_or, take, sym, refl, ap, ◌∙◌, subst, ap₂, arith, length-take, length-take-le, take_all}
+use Prim.Native.Nat.{ℕ, zero, suc, ◌+◌, ◌*◌, ◌≤◌}
+use mathlib.Core.Path.{◌≡◌, refl, sym, ap, ap₂, subst, ◌∙◌}
+use mathlib.Core.List.{List, [], ◌∷◌}
+use native.Mathlib.Omega.{arith}
+use lib.ListN.{length, get_or, take, length-take}
+use lib.Seq.{take_all, length-take-le}
 use Rattle.words.specs.Digits.{word}
 use Rattle.words.specs.Lists.{upto}
 use Rattle.words.proofs.Laws.{word_append}

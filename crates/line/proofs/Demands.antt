@@ -1,5 +1,9 @@
 -- Demand 2 for a line: it opens exactly when writing some message under that key gives it. And what writing gives is a good line, whose fields are what went in.
-use Rattle.std.proofs.Common.{◌≡◌, ℕ, ◌+◌, ◌-◌, ◌*◌, ◌≤◌, List, [], ◌∷◌, ◌++◌, length, drop, sym, refl, ap, ◌∙◌, ap₂, append_assoc, arith, length-append}
+use Prim.Native.Nat.{ℕ, ◌+◌, ◌-◌, ◌*◌, ◌≤◌}
+use mathlib.Core.Path.{◌≡◌, refl, sym, ap, ap₂, ◌∙◌}
+use mathlib.Core.List.{List, [], ◌∷◌, ◌++◌, append_assoc}
+use native.Mathlib.Omega.{arith}
+use lib.ListN.{length, drop, length-append}
 use Rattle.words.specs.Digits.{Digits, none, more}
 use Rattle.words.proofs.Cases.{by_lt}
 use Rattle.refusals.specs.declared.Answer.TheVariants.{Wrote, Refused}

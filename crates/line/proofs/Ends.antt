@@ -1,6 +1,14 @@
 -- Where a line ends: what is too long, and bytes after the 0A.
-use Rattle.std.proofs.Common.{◌≡◌, ℕ, suc, ◌+◌, ◌-◌, ◌*◌, ◌/◌, ◌<◌, ◌≤◌, Bool, true, false, cond, List, ◌∷◌, ◌++◌, length, take, sym, ap, ◌∙◌, zero-le, le_of_suc-le-suc, lt_irrefl, div-lt_iff_lt-mul, not-le_of_lt, arith, lit<, length-append, length-take, take_all, ne_eqb}
-use lib.Seq.{take-append_seam}
+use Prim.Native.Nat.{ℕ, suc, ◌+◌, ◌-◌, ◌*◌, ◌/◌, ◌≤◌, ◌<◌, zero-le}
+use mathlib.Core.Path.{◌≡◌, sym, ap, ◌∙◌}
+use mathlib.Core.List.{List, ◌∷◌, ◌++◌}
+use mathlib.Core.Bool.{Bool, true, false, cond}
+use native.Mathlib.Nat.{le_of_suc-le-suc, lt_irrefl, not-le_of_lt, div-lt_iff_lt-mul}
+use native.Mathlib.Omega.{arith}
+use lib.ListN.{length, take, length-take, length-append}
+use lib.Seq.{take_all, take-append_seam}
+use lib.Dec.{lit<}
+use borrow.Author.Tests.{ne_eqb}
 use Rattle.words.proofs.Cases.{by_lt, clash, not_true_false}
 use Rattle.line.specs.declared.Reading.TheVariants.{Fields, NotLine}
 use Rattle.line.proofs.Shape.{Shape, end_far, start_end, fit, fit_parts, fitting}

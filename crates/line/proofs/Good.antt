@@ -1,7 +1,15 @@
 -- What has the shape of a line and its length is the line of a frame.
-use Rattle.std.proofs.Common.{◌≡◌, ℕ, zero, suc, ◌+◌, ◌-◌, ◌*◌, ◌^◌, ◌<◌, ◌≤◌, true, List, [], ◌∷◌, ◌++◌, length, get_or, drop, sym, refl, ap, ◌∙◌, ap₂, append_assoc, le_refl, add-zero, pow-suc, mul-zero, arith, lit<, drop_of_length-le, drop-cons, ltb-true, le-ltb, lt-ltb, eq-eqb, ne_eqb, eqb-true}
-use lib.Seq.{append_snoc}
+use Prim.Native.Nat.{ℕ, zero, suc, ◌+◌, ◌-◌, ◌*◌, ◌^◌, ◌≤◌, ◌<◌}
+use mathlib.Core.Path.{◌≡◌, refl, sym, ap, ap₂, ◌∙◌}
+use mathlib.Core.List.{List, [], ◌∷◌, ◌++◌, append_assoc}
+use mathlib.Core.Bool.{true}
+use native.Mathlib.Nat.{le_refl, mul-zero, add-zero, pow-suc}
+use native.Mathlib.Omega.{arith}
+use lib.ListN.{length, get_or, drop, drop_of_length-le}
+use lib.Seq.{append_snoc, drop-cons}
 use lib.Arith.{digits_lt, digits_div, digits_mod}
+use lib.Dec.{lit<}
+use borrow.Author.Tests.{lt-ltb, le-ltb, ltb-true, eq-eqb, ne_eqb, eqb-true}
 use Rattle.words.specs.Digits.{Digits, none, more}
 use Rattle.frame.specs.Frames.{sealed_size}
 use Rattle.line.specs.Line.{hex_digits, hex, Frame, GoodLine}
@@ -44,7 +52,7 @@ unfolding stands
 stands_digit i b e l h p =
     ltb-true (hex_value b) 16 (simp (ne_eqb i 0 (λ q. omega arith), ne_eqb i 1 (λ q. omega arith), ne_eqb i 2 (λ q. omega arith), lt-ltb i e h) at p)
 
-pub stands_end : (b e : ℕ) → 3 ≤ e → stands e b e ≡ true → b ≡ 10
+stands_end : (b e : ℕ) → 3 ≤ e → stands e b e ≡ true → b ≡ 10
 unfolding stands
 stands_end b e l p =
     eqb-true b 10 (simp (ne_eqb e 0 (λ q. omega arith), ne_eqb e 1 (λ q. omega arith), ne_eqb e 2 (λ q. omega arith), le-ltb e e (le_refl e), eq-eqb e e refl) at p)

@@ -1,7 +1,14 @@
 -- Digits and the numbers that they write, and the line of a frame in them.
-use Rattle.std.proofs.Common.{◌≡◌, ℕ, zero, suc, ◌+◌, ◌-◌, ◌*◌, ◌/◌, ◌%◌, ◌^◌, ◌<◌, ◌≤◌, Bool, true, false, cond, ltb, List, [], ◌∷◌, ◌++◌, map, length, get_or, sym, refl, ap, ◌∙◌, ap₂, append_assoc, lt_irrefl, mod-lt, mul_comm, div-lt_iff_lt-mul, pow-suc, div-add-mod', div-one, arith, lit<, length-append, ltb-false, ltb-true, le-ltb, lt-ltb}
-use native.Mathlib.Nat.{div-eq_of_lt, div-div-eq-div-mul}
+use Prim.Native.Nat.{ℕ, zero, suc, ◌+◌, ◌-◌, ◌*◌, ◌/◌, ◌%◌, ◌^◌, ◌≤◌, ◌<◌}
+use mathlib.Core.Path.{◌≡◌, refl, sym, ap, ap₂, ◌∙◌}
+use mathlib.Core.List.{List, [], ◌∷◌, ◌++◌, map, append_assoc}
+use mathlib.Core.Bool.{Bool, true, false, cond}
+use native.Mathlib.Nat.{lt_irrefl, div-add-mod', mod-lt, div-lt_iff_lt-mul, pow-suc, mul_comm, div-one, div-eq_of_lt, div-div-eq-div-mul}
+use native.Mathlib.Omega.{arith}
+use lib.ListN.{length, get_or, length-append}
 use lib.Seq.{append_snoc, get_or_at}
+use lib.Dec.{ltb, lit<}
+use borrow.Author.Tests.{lt-ltb, le-ltb, ltb-true, ltb-false}
 use Rattle.words.specs.Digits.{digits}
 use Rattle.words.proofs.Cases.{by_lt}
 use Rattle.line.specs.Line.{hex_digit, hex_digits, hex, Frame, line_of}

@@ -3,7 +3,6 @@ pub mod Hex
 pub mod Good
 pub mod Written
 pub mod Places
-pub mod Tests
 pub mod Ends
 pub mod Fields
 pub mod Writing

@@ -1,5 +1,5 @@
 -- One outcome: each public contract of `line` leaves one answer and one content of lent memory.
-use Rattle.std.proofs.Common.{sym, refl, ◌∙◌}
+use mathlib.Core.Path.{refl, sym, ◌∙◌}
 use Rattle.words.proofs.Decided.{Decided}
 use Rattle.line.proofs
 use Rattle.line.proofs.Places.{reads_one}

@@ -1,13 +1,21 @@
 -- The answer that is computed is the paper's, and the paper's answer is only that.
-use Rattle.std.proofs.Common.{◌≡◌, ℕ, zero, suc, ◌+◌, ◌-◌, ◌<◌, ◌≤◌, Bool, true, false, cond, eqb, List, ◌++◌, length, get_or, take, drop, sym, refl, ap, ◌∙◌, subst, zero-le, le_refl, lt_irrefl, not-le_of_lt, arith, take-append-drop, length-take, get_or-take, take-take, le-ltb, eq-eqb, ne_eqb, eqb-true}
-use lib.Seq.{take-append_seam}
+use Prim.Native.Nat.{ℕ, zero, suc, ◌+◌, ◌-◌, ◌*◌, ◌≤◌, ◌<◌, zero-le}
+use mathlib.Core.Path.{◌≡◌, refl, sym, ap, ◌∙◌, subst}
+use mathlib.Core.List.{List, ◌++◌}
+use mathlib.Core.Bool.{Bool, true, false, cond}
+use native.Mathlib.Nat.{le_refl, lt_irrefl, not-le_of_lt}
+use native.Mathlib.Omega.{arith}
+use lib.ListN.{length, get_or, take, drop, take-append-drop, length-take}
+use lib.Seq.{get_or-take, take-append_seam, take-take}
+use lib.Dec.{eqb}
+use borrow.Author.Tests.{le-ltb, eq-eqb, ne_eqb, eqb-true}
 use Rattle.words.proofs.Cases.{by_lt, by_eq, both, clash}
 use Rattle.line.specs.declared.Reading.{Reading}
-use Rattle.line.specs.declared.Reading.TheVariants.{NotLine}
-use Rattle.line.proofs.Shape.{Shape, end_far, start_shape, start_label, start_message, fits_byte, fit, fit_parts, fitting, complete}
+use Rattle.line.specs.declared.Reading.TheVariants.{Fields, NotLine}
+use Rattle.line.proofs.Shape.{Shape, end_far, start_shape, start_label, start_message, start_end, fits_byte, fit, fit_parts, fitting, complete}
 use Rattle.line.proofs.Good.{whole_good}
 use Rattle.line.proofs.Written.{good_whole, line_fields}
-use Rattle.line.specs.Line.{Frame, LineOf, GoodLine, Begins, Place, wrong, short, placed, fields_of, Reads, fields, refused}
+use Rattle.line.specs.Line.{Frame, LineOf, GoodLine, Begins, Place, wrong, short, fields_of, Reads, fields, refused}
 use Rattle.line.specs.Reader.{serial_of, label_length, message_length, end_of, stands, fits, first, place, good, reading}
 
 -- ---- what begins a good line
@@ -82,7 +90,7 @@ module _ (s : List ℕ) where
       let (a, b, c) = fit_parts s 19 ((place_is s).passed 19 zero-le p) in
       let x : label_length (take (k + 1) s) ≤ 32 = rw (start_label s (k + 1) (omega arith), ← start_label s 20 (le_refl 20)) a in
       let y : message_length (take (k + 1) s) ≤ 1024 = rw (start_message s (k + 1) (omega arith), ← start_message s 20 (le_refl 20)) b in
-      fits_byte s k e x y l q
+      fits_byte s k e x y l (q ∙ sym (start_end s (k + 1) (omega arith)))
 
 pub fits_start : (s : List ℕ) (n i : ℕ) → i < n → fits (take n s) i ≡ fits s i
 unfolding fits
@@ -106,7 +114,7 @@ module _ (s : List ℕ) where
   place_short : place s ≡ length s → Shape s
   place_short e = fitting s (λ i l. (place_is s).passed i zero-le (omega arith))
 
-  pub good_line : GoodLine s → good s ≡ true
+  good_line : GoodLine s → good s ≡ true
   unfolding good
   good_line g = simp (eq-eqb (place s) (length s) (short_place (good_whole s g).shape), eq-eqb (length s) (end_of s + 1) (good_whole s g).whole)
 
@@ -151,12 +159,22 @@ module _ (s : List ℕ) where
 
   -- ---- by cases, as the code answers
 
-  pub read_bad : (k : ℕ) → good s ≡ false → k ≡ place s → NotLine k ≡ reading s
-  read_bad k g e = ap NotLine e ∙ sym (bad_reading g)
+  pub read_wrong : (k : ℕ) → k ≡ place s → k < length s → NotLine k ≡ reading s
+  unfolding reading good
+  read_wrong k e l = simp (e, ne_eqb (place s) (length s) (λ q. omega arith))
 
-  pub read_good : (a b c : ℕ) → good s ≡ true → a ≡ serial_of s → b ≡ label_length s → c ≡ message_length s → placed a b c ≡ reading s
-  unfolding reading
-  read_good a b c g x y z = simp (g, x, y, z)
+  pub read_short : (k : ℕ) → k ≡ place s → length s ≤ k → (k ≡ end_of s + 1 → ⊥) → NotLine k ≡ reading s
+  unfolding reading good
+  read_short k e l h =
+      let w : k ≡ length s = omega (arith, place_within s) in
+      simp (sym e, ne_eqb (length s) (end_of s + 1) (λ x. h (w ∙ x)), eq-eqb k (length s) w)
+
+  pub read_good : (k a b c : ℕ) → k ≡ place s → length s ≤ k → k ≡ end_of s + 1 → a ≡ serial_of s → b ≡ label_length s → c ≡ message_length s
+      → Fields a b c 20 (20 + 2 * b) ≡ reading s
+  unfolding reading good
+  read_good k a b c e l h x y z =
+      let w : k ≡ length s = omega (arith, place_within s) in
+      simp (sym e, eq-eqb k (length s) w, eq-eqb (length s) (end_of s + 1) (sym w ∙ h), x, y, z)
 
   pub reading_reads : Reads s (reading s)
   reading_reads = go (good s) refl

@@ -1,9 +1,15 @@
 -- The shape of a line, byte by byte: each start of it has the shape, and what has the shape can be completed.
-use Rattle.std.proofs.Common.{◌≡◌, ℕ, zero, suc, ◌+◌, ◌-◌, ◌*◌, ◌^◌, ◌<◌, ◌≤◌, Bool, true, false, cond, eqb, ltb, leb, List, [], ◌∷◌, ◌++◌, length, get_or, take, sym, refl, ap, ◌∙◌, ap₂, append-nil, zero-le, le_trans, le_refl, le_of_suc-le-suc, not-suc-le-zero, add-one, arith, lit<, length-append, length-take, take_all, get_or-take, ltb-true, le-ltb, lt-ltb, eq-eqb, ne_eqb, le-leb, leb-true}
-use native.Mathlib.Nat.{pow-le-pow_right}
-use lib.ListN.{get_or-eq_default, get_or-append}
-use lib.Seq.{get_or-append_seam, append_snoc}
-use borrow.Author.Tests.{lt-leb}
+use Prim.Native.Nat.{ℕ, zero, suc, ◌+◌, ◌-◌, ◌*◌, ◌^◌, ◌≤◌, ◌<◌, zero-le}
+use mathlib.Core.Path.{◌≡◌, refl, sym, ap, ap₂, ◌∙◌}
+use mathlib.Core.List.{List, [], ◌∷◌, ◌++◌, append-nil}
+use mathlib.Core.Bool.{Bool, true, false, cond}
+use native.Mathlib.Nat.{le_of_suc-le-suc, not-suc-le-zero, le_refl, le_trans, pow-le-pow_right}
+use native.Mathlib.Omega.{arith}
+use native.Mathlib.Numerals.{add-one}
+use lib.ListN.{length, get_or, take, length-take, length-append, get_or-eq_default, get_or-append}
+use lib.Seq.{get_or-take, take_all, get_or-append_seam, append_snoc}
+use lib.Dec.{lit<, ltb, leb, eqb}
+use borrow.Author.Tests.{lt-ltb, le-ltb, eq-eqb, ne_eqb, le-leb, lt-leb, leb-true, ltb-true}
 use Rattle.words.proofs.Cases.{by_eq, by_lt, all_three}
 use Rattle.frame.specs.Frames.{sealed_size}
 use Rattle.line.specs.Reader.{hex_value, number_at, label_length, message_length, end_of, stands, fits}
@@ -83,6 +89,11 @@ module _ (s : List ℕ) (i : ℕ) where
   unfolding fits
   fits_message l h = simp (le-leb _ 32 l, lt-leb _ 1024 h)
 
+  pub fits_byte : (e : ℕ) → label_length (take (i + 1) s) ≤ 32 → message_length (take (i + 1) s) ≤ 1024 → i < length s
+      → e ≡ end_of (take (i + 1) s) → stands i (get_or s i 0) e ≡ fits s i
+  unfolding fits
+  fits_byte e l m h q = simp (le-leb _ 32 l, le-leb _ 1024 m, inside s i h, q)
+
 -- ---- a start of a line
 
 pub end_far : (s : List ℕ) → 36 ≤ end_of s
@@ -123,11 +134,6 @@ module _ (s : List ℕ) (n : ℕ) where
             let u : i < n = omega (arith, length-take n s) in
             rw get_or-take (start_stands i (get_or s i 48) u ∙ h.bytes i (omega (arith, length-take n s)));
       }
-
-pub fits_byte : (s : List ℕ) (i e : ℕ) → label_length (take (i + 1) s) ≤ 32 → message_length (take (i + 1) s) ≤ 1024 → i < length s
-    → e ≡ end_of s → stands i (get_or s i 0) e ≡ fits s i
-unfolding fits
-fits_byte s i e l m h q = simp (le-leb _ 32 l, le-leb _ 1024 m, inside s i h, q, start_stands s (i + 1) i (get_or s i 0) (omega arith))
 
 pub fit : (s : List ℕ) → Shape s → (i : ℕ) → i < length s → fits s i ≡ true
 unfolding fits

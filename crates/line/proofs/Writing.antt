@@ -1,7 +1,13 @@
 -- What is written of a line, part by part.
-use Rattle.std.proofs.Common.{◌≡◌, ℕ, zero, suc, ◌+◌, ◌-◌, ◌*◌, ◌/◌, ◌%◌, ◌<◌, ◌≤◌, List, [], ◌∷◌, ◌++◌, length, get_or, take, drop, set, sym, refl, ap, ◌∙◌, append_assoc, append-nil, le_refl, add-one, sub-one, arith, length-append, length-drop, drop_of_length-le, length-take-le, take_all, drop-cons, take-suc, get_or-set_same, drop-set-lt, lt-length-set}
+use Prim.Native.Nat.{ℕ, zero, suc, ◌+◌, ◌-◌, ◌*◌, ◌/◌, ◌%◌, ◌≤◌, ◌<◌}
+use mathlib.Core.Path.{◌≡◌, refl, sym, ap, ◌∙◌}
+use mathlib.Core.List.{List, [], ◌∷◌, ◌++◌, append_assoc, append-nil}
+use native.Mathlib.Nat.{le_refl}
+use native.Mathlib.Numerals.{add-one, sub-one}
+use native.Mathlib.Omega.{arith}
 use borrow.Rule.Slice.PartMut.{put_mid}
-use lib.Seq.{set_at}
+use lib.ListN.{length, get_or, take, drop, set, length-append, length-drop, drop_of_length-le}
+use lib.Seq.{drop-cons, lt-length-set, get_or-set_same, drop-set-lt, take-suc, take_all, length-take-le, set_at}
 use Rattle.words.proofs.Laws.{mid_turn, middle}
 use Rattle.line.specs.Line.{hex_digit, hex_digits, hex, Frame, line_of}
 use Rattle.line.specs.Calls.{frame_of}

@@ -1,6 +1,14 @@
 -- The line of a frame has that shape and length, and its fields are those of the frame.
-use Rattle.std.proofs.Common.{◌≡◌, ℕ, zero, suc, ◌+◌, ◌-◌, ◌*◌, ◌/◌, ◌%◌, ◌^◌, ◌<◌, ◌≤◌, true, List, [], ◌∷◌, ◌++◌, length, get_or, sym, refl, ap, ◌∙◌, subst, append_assoc, le_of_suc-le-suc, not-suc-le-zero, mod-lt, arith, lit<, length-append, le-ltb, lt-ltb, eq-eqb, ne_eqb}
+use Prim.Native.Nat.{ℕ, zero, suc, ◌+◌, ◌-◌, ◌*◌, ◌/◌, ◌%◌, ◌^◌, ◌≤◌, ◌<◌}
+use mathlib.Core.Path.{◌≡◌, refl, sym, ap, ◌∙◌, subst}
+use mathlib.Core.List.{List, [], ◌∷◌, ◌++◌, append_assoc}
+use mathlib.Core.Bool.{true}
+use native.Mathlib.Nat.{le_of_suc-le-suc, not-suc-le-zero, mod-lt}
+use native.Mathlib.Omega.{arith}
+use lib.ListN.{length, get_or, length-append}
 use lib.Seq.{get_or-append_seam}
+use lib.Dec.{lit<}
+use borrow.Author.Tests.{lt-ltb, le-ltb, eq-eqb, ne_eqb}
 use Rattle.words.proofs.Cases.{by_lt, by_eq}
 use Rattle.line.specs.Line.{hex_digit, hex_digits, hex, Frame, Limits, LineOf, GoodLine}
 use Rattle.line.specs.Reader.{hex_value, number_at, serial_of, label_length, message_length, end_of, stands}
@@ -31,14 +39,14 @@ unfolding hex
 digits_hex [] = nothing
 digits_hex (b ∷ l) = digits_append (digits_digits 2 b) (digits_hex l)
 
-pub stands_of : (i b e : ℕ) → 3 ≤ e → (i ≡ 0 → b ≡ 48) → (i ≡ 1 → b ≡ 49) → (i ≡ 2 → b ≡ 48) → (3 ≤ i → i < e → hex_value b < 16) → (i ≡ e → b ≡ 10) → i ≤ e
+stands_of : (i b e : ℕ) → 3 ≤ e → (i ≡ 0 → b ≡ 48) → (i ≡ 1 → b ≡ 49) → (i ≡ 2 → b ≡ 48) → (i < e → hex_value b < 16) → (i ≡ e → b ≡ 10) → i ≤ e
     → stands i b e ≡ true
 unfolding stands
 stands_of i b e l b0 b1 b2 d z h =
     by_eq i 0 (λ p. simp (eq-eqb i 0 p, eq-eqb b 48 (b0 p)))
     λ p. by_eq i 1 (λ q. simp (ne_eqb i 0 p, eq-eqb i 1 q, eq-eqb b 49 (b1 q)))
     λ q. by_eq i 2 (λ r. simp (ne_eqb i 0 p, ne_eqb i 1 q, eq-eqb i 2 r, eq-eqb b 48 (b2 r)))
-    λ r. by_lt i e (λ t. simp (ne_eqb i 0 p, ne_eqb i 1 q, ne_eqb i 2 r, lt-ltb i e t, lt-ltb (hex_value b) 16 (d (omega arith) t)))
+    λ r. by_lt i e (λ t. simp (ne_eqb i 0 p, ne_eqb i 1 q, ne_eqb i 2 r, lt-ltb i e t, lt-ltb (hex_value b) 16 (d t)))
     λ t. let u : i ≡ e = omega arith in simp (ne_eqb i 0 p, ne_eqb i 1 q, ne_eqb i 2 r, le-ltb i e t, eq-eqb i e u, eq-eqb b 10 (z u))
 
 module _ (f : Frame) where
@@ -83,7 +91,7 @@ module _ (f : Frame) where
   unfolding body
   body_at i h =
       stands_of i _ (length body) (omega (arith, body_length)) (λ e. rw e) (λ e. rw e) (λ e. rw e)
-      (λ m l. digits_get (10 ∷ []) i body_digits l)
+      (λ l. digits_get (10 ∷ []) i body_digits l)
       (λ e. rw e (get_or-append_seam body 10 [] 48))
       h
 

@@ -1,5 +1,5 @@
 -- Document 01, "The frame line" and "What a refused caller gets": what writing and opening a line answer, and what they leave.
-use Rattle.std.specs.Prelude.{◌≡◌, ℕ, List, length}
+use Rattle.std.specs.Prelude.{ℕ, ◌≡◌, List, length}
 use Rattle.words.specs.Digits.{Digits}
 use Rattle.refusals.specs.declared.Answer.{Answer}
 use Rattle.refusals.specs.Refusals.{giving}

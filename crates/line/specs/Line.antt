@@ -1,5 +1,5 @@
 -- Document 01, "The frame line": what a good line is, what begins one, the place in refusal 7, and what a reader answers.
-use Rattle.std.specs.Prelude.{◌≡◌, ℕ, ◌+◌, ◌*◌, ◌<◌, cond, List, [], ◌∷◌, ◌++◌, map, length, take, nat_lt}
+use Rattle.std.specs.Prelude.{ℕ, ◌+◌, ◌*◌, ◌<◌, ◌≡◌, List, [], ◌∷◌, ◌++◌, map, cond, length, take, ltb}
 use Rattle.words.specs.Digits.{digits, Digits}
 use Rattle.refusals.specs.declared.Answer.{Answer}
 use Rattle.refusals.specs.declared.Answer.TheVariants.{Refused}
@@ -10,7 +10,7 @@ use Rattle.line.specs.declared.Reading.TheVariants.{Fields, NotLine}
 
 -- "Lowercase hexadecimal": '0' is byte 48, 'a' is byte 97
 unfoldable pub hex_digit : ℕ → ℕ
-hex_digit d = cond (nat_lt d 10) (d + 48) (d + 87)
+hex_digit d = cond (ltb d 10) (d + 48) (d + 87)
 
 -- the last k digits of a number, the most significant first
 unfoldable pub hex_digits : ℕ → ℕ → List ℕ

@@ -1,19 +1,14 @@
 -- What contracts of private functions say. Not from the paper.
-use Rattle.std.specs.Prelude.{ℕ, ◌+◌, ◌*◌, ◌^◌, ◌<◌, ◌≤◌, Bool, true, ◌&&◌, List, [], ◌∷◌, nat_lt}
+use Rattle.std.specs.Prelude.{ℕ, ◌+◌, ◌*◌, ◌^◌, ◌≤◌, ◌<◌, List}
 use Rattle.refusals.specs.declared.Answer.{Answer}
 use Rattle.line.specs.Line.{refused_at}
-use Rattle.line.specs.Reader.{hex_value, number_at}
+use Rattle.line.specs.Reader.{number_at}
 use Rattle.line.specs.declared.Reading.{Reading}
 use Rattle.line.specs.declared.Reading.TheVariants.{Fields, NotLine}
 
 -- how many bytes the line of a frame with a label of l bytes and k sealed ones has: two digits a byte, twenty before them, and the 0A
 abbrev pub line_size : ℕ → ℕ → ℕ
 line_size l k = 20 + 2 * (l + k) + 1
-
--- is every byte a digit?
-abbrev pub all_digits : List ℕ → Bool
-all_digits [] = true
-all_digits (b ∷ s) = nat_lt (hex_value b) 16 && all_digits s
 
 -- l bytes of label and k sealed bytes stand as digits at these places of s
 pub record FieldsRead (s : List ℕ) (l k label_place sealed_place : ℕ) : Type 0 where

@@ -1,11 +1,11 @@
 // Frame lines: reading, writing and opening.
-ghost use Rattle.std.specs.Prelude.{◌≡◌, ℕ, ◌+◌, ◌*◌, ◌^◌, ◌<◌, ◌≤◌, ◌++◌, length, drop, slice_index_or};
+ghost use Rattle.std.specs.Prelude.{◌≡◌, ◌++◌, ℕ, ◌+◌, ◌*◌, ◌^◌, ◌<◌, ◌≤◌, min, length, get_or, drop};
 ghost use Rattle.refusals.specs.Refusals.{giving};
 ghost use Rattle.frame.specs.Frames.{sealed_size, opening};
 ghost use Rattle.line.specs.Line.{Reads, hex_digit, hex_digits, hex, line_of};
-ghost use Rattle.line.specs.Reader.{hex_value, number_at, label_length, message_length, end_of, bytes_at, stands, fits, place, good};
+ghost use Rattle.line.specs.Reader.{hex_value, number_at, label_length, message_length, end_of, bytes_at, stands, fits, place};
 ghost use Rattle.line.specs.Calls.{frame_of, writing, opening_line};
-ghost use Rattle.line.specs.Workings.{line_size, all_digits, FieldsRead, refused_as};
+ghost use Rattle.line.specs.Workings.{line_size, FieldsRead, refused_as};
 
 use refusals::{Answer, Refusal};
 
@@ -26,36 +26,40 @@ pub enum Reading {
 }
 
 // The value of a digit, or 16 for a byte that is none.
-fn hex_val(b: u8) -> u8
+fn hex_val(b: u8) -> u64
     ensures { result ≡ hex_value b }
 {
-    let digit = std::num::wrapping_sub_u8(b, 48);
-    if digit < 10 {
-        return digit;
+    if b < 48 {
+        return 16;
     }
-    let letter = std::num::wrapping_sub_u8(b, 97);
-    if letter < 6 {
-        return letter + 10;
+    if b < 58 {
+        return (b - 48) as u64;
+    }
+    if b < 97 {
+        return 16;
+    }
+    if b < 103 {
+        return (b - 87) as u64;
     }
     16
 }
 
 // The value of the digit at place i: 0 past the end, and 16 for a byte that is no digit.
 pub fn digit_at(s: &[u8], i: usize) -> u64
-    ensures { result ≡ hex_value (slice_index_or s.now i 48) }
+    ensures { result ≡ hex_value (get_or s.now i 48) }
 {
-    if i < s.len() { hex_val(s[i]) as u64 } else { 0 }
+    if i < s.len() { hex_val(s[i]) } else { 0 }
 }
 
-// The number of the n digits from place a on. It counts in 32 bits, which is one register of a small processor.
-fn number_at(s: &[u8], a: usize, n: u32) -> u64
+// The number of the n digits from place a on.
+fn number_at(s: &[u8], a: usize, n: usize) -> u64
     requires { (a ≤ 2 ^ 32) × (n ≤ 12) }
     ensures { (result ≡ number_at s.now a n) × (result < 2 ^ 49) }
 {
     let mut v: u64 = 0;
-    let mut i: u32 = 0;
+    let mut i = 0;
     while i < n {
-        v = v * 16 + digit_at(s, a + i as usize);
+        v = v * 16 + digit_at(s, a + i);
         i += 1;
     }
     v
@@ -73,6 +77,13 @@ fn message_length(s: &[u8]) -> usize
     ensures { (result ≡ message_length s.now) × (result < 2 ^ 49) }
 {
     number_at(s, 16, 4) as usize
+}
+
+// Where the 0A stands.
+fn end_of(s: &[u8]) -> usize
+    ensures { (result ≡ end_of s.now) × (result < 2 ^ 52) }
+{
+    20 + 2 * (label_length(s) + frame::sealed_size(message_length(s)))
 }
 
 // May this byte stand at place i of a line whose 0A stands at place e?
@@ -97,31 +108,49 @@ fn stands_at(i: usize, b: u8, e: usize) -> bool
     false
 }
 
-// May byte i stand there, by the bytes up to it? All before it may, and the 0A stands at place e. The lengths stand in the first twenty bytes.
-fn fits_at(s: &[u8], i: usize, e: usize) -> bool
-    requires { ((i < length s.now) × (i ≤ place s.now)) × (e ≡ end_of s.now) }
+// May byte i stand there, by the bytes up to it?
+fn fits_at(s: &[u8], i: usize) -> bool
+    requires { i < length s.now }
     ensures { result ≡ fits s.now i }
 {
-    if i < 20 {
-        let t = &s[..i + 1];
-        if 32 < label_length(t) {
-            return false;
-        }
-        if 1024 < message_length(t) {
-            return false;
-        }
+    let t = &s[..i + 1];
+    if 32 < label_length(t) {
+        return false;
     }
-    stands_at(i, s[i], e)
+    if 1024 < message_length(t) {
+        return false;
+    }
+    stands_at(i, s[i], end_of(t))
 }
 
-// The first place whose byte may not stand there, or how many bytes there are. The 0A stands at place e.
-fn first_place(s: &[u8], e: usize) -> u32
-    requires { e ≡ end_of s.now }
-    ensures { result ≡ place s.now }
+// The first of the first twenty places whose byte may not stand there, or 20.
+fn head_place(s: &[u8]) -> usize
+    ensures { result ≡ min 20 (place s.now) }
 {
-    let mut k: u32 = 0;
-    while (k as usize) < s.len() {
-        if !fits_at(s, k as usize, e) {
+    let mut k = 0;
+    while k < 20 {
+        if k == s.len() {
+            return k;
+        }
+        if !fits_at(s, k) {
+            return k;
+        }
+        k += 1;
+    }
+    20
+}
+
+// The first place whose byte may not stand there, or how many bytes there are.
+fn first_place(s: &[u8]) -> usize
+    ensures { (result ≡ place s.now) × (result < 2150) }
+{
+    let mut k = head_place(s);
+    if k < 20 {
+        return k;
+    }
+    let e = end_of(s);
+    while k < s.len() {
+        if !stands_at(k, s[k], e) {
             return k;
         }
         k += 1;
@@ -129,64 +158,22 @@ fn first_place(s: &[u8], e: usize) -> u32
     k
 }
 
-// Is every byte a digit? It looks at all of them, for then the compiler tests many at once.
-fn all_digits(s: &[u8]) -> bool
-    ensures { result ≡ all_digits s.now }
-{
-    let mut bad: u8 = 0;
-    let mut i = 0;
-    while i < s.len() {
-        bad |= hex_val(s[i]);
-        i += 1;
-    }
-    bad < 16
-}
-
-// Is it a good line? Its lengths are l and n, and its 0A stands at place e.
-fn is_good(s: &[u8], l: usize, n: usize, e: usize) -> bool
-    requires { (l ≡ label_length s.now) × ((n ≡ message_length s.now) × (e ≡ end_of s.now)) }
-    ensures { result ≡ good s.now }
-{
-    if 32 < l {
-        return false;
-    }
-    if 1024 < n {
-        return false;
-    }
-    if s.len() != e + 1 {
-        return false;
-    }
-    if s[0] != 48 {
-        return false;
-    }
-    if s[1] != 49 {
-        return false;
-    }
-    if s[2] != 48 {
-        return false;
-    }
-    if s[e] != 10 {
-        return false;
-    }
-    all_digits(&s[3..e])
-}
-
 // The fields of a frame line and their places, or the place where it is none.
 pub fn read(s: &[u8]) -> Reading
     ensures { Reads s.now result }
 {
-    let l = label_length(s);
-    let n = message_length(s);
-    let e = 20 + 2 * (l + frame::sealed_size(n));
-    if !is_good(s, l, n, e) {
-        return Reading::NotLine {
-            place: first_place(s, e),
-        };
+    let k = first_place(s);
+    if k < s.len() {
+        return Reading::NotLine { place: k as u32 };
     }
+    if k != end_of(s) + 1 {
+        return Reading::NotLine { place: k as u32 };
+    }
+    let l = label_length(s);
     Reading::Fields {
         serial: number_at(s, 3, 11),
         label_length: l,
-        message_length: n,
+        message_length: message_length(s),
         label_place: 20,
         sealed_place: 20 + 2 * l,
     }

@@ -12,8 +12,8 @@ use Rattle.refusals.specs.declared.Answer.{Answer}
 use Rattle.refusals.specs.declared.Answer.TheVariants.{Wrote, Refused}
 use Rattle.refusals.specs.declared.Refusal.{Refusal}
 use Rattle.refusals.specs.Refusals.{number_of, place_of}
-use Rattle.listing.specs.Listing.{answer_of, one, at_text, refusal_text, report, total}
-use Rattle.listing.specs.Chunks.{pushing, pushed, gathering, key_text, key_of, ended_as, ending, holding, fed_by, answering, Ends, Feeds, finishing, total_as, closing, Kept, Remembers}
+use Rattle.listing.specs.Listing.{answer_of, one, decimal, at_text, refusal_text, report, total}
+use Rattle.listing.specs.Chunks.{pushing, pushed, gathering, key_text, key_of, ended_as, ending, holding, fed_by, Appended, answering, Ends, Feeds, finishing, total_as, closing, Kept, Remembers}
 use Rattle.listing.specs.declared.Key.{Key}
 use Rattle.listing.specs.declared.Key.TheVariants.{Unread, Known, Bad}
 use Rattle.listing.specs.declared.Lister.{Lister}
@@ -21,8 +21,7 @@ use Rattle.listing.specs.declared.Gathered.{Gathered}
 use Rattle.listing.specs.declared.Ended.{Ended}
 use Rattle.listing.specs.declared.Fed.{Fed}
 use Rattle.line.specs.Reader.{serial_of}
-use Rattle.texts.specs.Texts.{decimal, Appended}
-use Rattle.texts.proofs.Texts.{decimal_short}
+use Rattle.listing.proofs.Texts.{decimal_short}
 use Rattle.listing.proofs.Used.{remembers_next}
 use Rattle.listing.proofs.Gathering.{push_few, on_end, on_more}
 

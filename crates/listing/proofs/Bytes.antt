@@ -8,8 +8,7 @@ use lib.Dec.{eqb}
 use lib.ListN.{length}
 use lib.Seq.{append_snoc}
 use Rattle.words.proofs.Cases.{by_eq}
-use Rattle.texts.specs.Lines.{lines_of}
-use Rattle.listing.specs.Listing.{serials_max, listing}
+use Rattle.listing.specs.Listing.{lines_of, serials_max, listing}
 use Rattle.listing.specs.Chunks.{ending, closing}
 use Rattle.listing.specs.declared.Lister.{Lister}
 use Rattle.listing.proofs.Lines.{rest, start, rest_all}

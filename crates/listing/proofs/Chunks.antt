@@ -10,9 +10,8 @@ use lib.ListN.{length, take, drop, length-take}
 use lib.Seq.{append_snoc, take_all, take-append-le, take-take, take_at, take-length, length-take-le}
 use Rattle.words.proofs.Cases.{by_lt, by_eq}
 use Rattle.refusals.specs.declared.Answer.{Answer}
-use Rattle.texts.specs.Texts.{Appended}
 use Rattle.listing.specs.Listing.{serials_max, listing}
-use Rattle.listing.specs.Chunks.{pushing, pushed, gathering, key_text, answering, Ends, ended_known, ended_as, ending, holding, fed_by, Feeds, finishing, closing, total_as}
+use Rattle.listing.specs.Chunks.{pushing, pushed, gathering, Appended, key_text, answering, Ends, ended_known, ended_as, ending, holding, fed_by, Feeds, finishing, closing, total_as}
 use Rattle.listing.specs.declared.Key.{Key}
 use Rattle.listing.specs.declared.Key.TheVariants.{Unread, Known, Bad}
 use Rattle.listing.specs.declared.Lister.{Lister}

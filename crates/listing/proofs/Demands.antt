@@ -16,12 +16,11 @@ use Rattle.line.specs.Reader.{serial_of, label_length, message_length, place, go
 use Rattle.line.specs.Calls.{opening_line, WrittenFrom}
 use Rattle.line.specs.declared.Reading.TheVariants.{Fields, NotLine}
 use Rattle.line.proofs.Demands.{line_opens, line_opens_only, written_reads, open_line_can}
-use Rattle.texts.specs.Lines.{lines_of}
 use Rattle.listing.proofs.Bounds.{one_few}
 use Rattle.listing.proofs.Used.{repeated, list_full, fresh, opened_as, refused_as_lem, Why, alone, used_before_it, no_room}
 use Rattle.listing.proofs.Lines.{listed_key}
 use Rattle.listing.proofs.Repeats.{used_before, before_used, not_used, unused, opened_before, refused_uses_nothing}
-use Rattle.listing.specs.Listing.{is_key, w0_of, k0_of, answer_of, serials_max, unless_used, answer_after, used_by, used_after, answers, one, opened_in, reported, listed, listing, used_up_to, answer_behind, UsedBefore, Opens, none, more, Once, once_none, once_more, GoodFile}
+use Rattle.listing.specs.Listing.{lines_of, is_key, w0_of, k0_of, answer_of, serials_max, unless_used, answer_after, used_by, used_after, answers, one, opened_in, reported, listed, listing, used_up_to, answer_behind, UsedBefore, Opens, none, more, Once, once_none, once_more, GoodFile}
 
 -- the serial of a line that has one
 serial_read : (s : List ℕ) (a b c d e : ℕ) → reading s ≡ Fields a b c d e → serial_of s ≡ a

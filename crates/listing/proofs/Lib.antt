@@ -1,3 +1,4 @@
+pub mod Texts
 pub mod Keys
 pub mod Gathering
 pub mod Used

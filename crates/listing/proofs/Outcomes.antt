@@ -3,13 +3,19 @@ use mathlib.Core.Path.{◌≡◌, sym, ◌∙◌}
 use mathlib.Core.List.{List}
 use Prim.Native.Nat.{ℕ}
 use Rattle.words.proofs.Decided.{Decided}
-use Rattle.texts.proofs.Texts.{one_end, one_text}
-use Rattle.listing.specs.Chunks.{Ends, Feeds}
+use Rattle.listing.specs.Chunks.{Appended, Ends, Feeds}
 use Rattle.listing.specs.declared.Lister.{Lister}
 use Rattle.listing.specs.declared.Gathered.{Gathered}
 use Rattle.listing.specs.declared.Ended.{Ended}
 use Rattle.listing.specs.declared.Fed.{Fed}
 use Rattle.listing.proofs
+
+module _ {d t o p : List ℕ} {m n : ℕ} (a : Appended d 0 t o m) (b : Appended d 0 t p n) where
+  one_end : m ≡ n
+  one_end = a.end ∙ sym b.end
+
+  one_text : o ≡ p
+  one_text = a.text ∙ sym b.text
 
 one_ending : {x : Lister × List ℕ × List ℕ} {d m n o p : List ℕ} {r q : Ended} (a : Ends x d r m o) (b : Ends x d q n p) → r ≡ q
 one_ending a b = λ i. record { state = (a.state ∙ sym b.state) i; said = one_end a.text b.text i }

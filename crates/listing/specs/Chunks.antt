@@ -1,10 +1,10 @@
 -- The listing reckoned from chunks of the input: what is kept between them, and what each brings. Not from the paper: `proofs/Chunks.antt` shows that it gives the listing.
 use Rattle.std.specs.Prelude.{ℕ, ◌+◌, ◌≤◌, ◌<◌, ◌^◌, true, false, cond, ◌≡◌, List, [], ◌∷◌, ◌++◌, eqb, ltb, length, take, drop, set}
+use Rattle.std.proofs.Math.Seq.{paste}
 use Rattle.refusals.specs.declared.Answer.{Answer}
 use Rattle.refusals.specs.declared.Answer.TheVariants.{Wrote, Refused}
 use Rattle.serials.specs.Serials.{Rising, put}
 use Rattle.line.specs.Reader.{serial_of}
-use Rattle.texts.specs.Texts.{Appended}
 use Rattle.listing.specs.Listing.{is_key, w0_of, k0_of, key_refused_text, answer_of, serials_max, unless_used, report, one, total}
 use Rattle.listing.specs.declared.Key.{Key}
 use Rattle.listing.specs.declared.Key.TheVariants.{Unread, Known, Bad}
@@ -30,6 +30,11 @@ gathering line held n (b ∷ s) =
     cond (eqb b 10)
     (record { held = pushed held; taken = n + 1; ended = true }, pushing line held b)
     (gathering (pushing line held b) (pushed held) (n + 1) s)
+
+-- a text t stands behind the first n bytes of out, where what was there is d, and ends at m
+pub record Appended (d : List ℕ) (n : ℕ) (t out : List ℕ) (m : ℕ) : Type 0 where
+  pub end : m ≡ n + length t
+  pub text : out ≡ paste d n t (length t)
 
 -- the key that a line has
 unfoldable pub key_of : List ℕ → Key

@@ -1,5 +1,5 @@
 -- Document 01, "The file checker's listing", with request 1 of document 02, "A serial used twice": what the checker prints, from the bytes of the input.
-use Rattle.std.specs.Prelude.{ℕ, zero, suc, ◌+◌, ◌-◌, ◌≤◌, Bool, true, false, cond, ◌&&◌, ◌≡◌, List, [], ◌∷◌, ◌++◌, eqb, ltb, length, get_or, replicate}
+use Rattle.std.specs.Prelude.{ℕ, zero, suc, ◌+◌, ◌-◌, ◌/◌, ◌%◌, ◌≤◌, Bool, true, false, cond, ◌&&◌, ◌≡◌, List, [], ◌∷◌, ◌++◌, eqb, ltb, length, get_or, replicate}
 use Rattle.refusals.specs.declared.Answer.{Answer}
 use Rattle.refusals.specs.declared.Answer.TheVariants.{Wrote, Refused}
 use Rattle.words.specs.Cases.{if_le, if_yes}
@@ -9,8 +9,17 @@ use Rattle.refusals.specs.declared.Refusal.TheVariants.{RepeatedSerial, SerialLi
 use Rattle.refusals.specs.Refusals.{number_of, place_of}
 use Rattle.line.specs.Reader.{hex_value, number_at, serial_of}
 use Rattle.line.specs.Calls.{opening_line}
-use Rattle.texts.specs.Texts.{decimal}
-use Rattle.texts.specs.Lines.{lines_of}
+
+-- ---- the lines of the input
+
+abbrev pub on_first : ℕ → List (List ℕ) → List (List ℕ)
+on_first b [] = (b ∷ []) ∷ []
+on_first b (l ∷ ls) = (b ∷ l) ∷ ls
+
+-- "A last piece without 0A counts as a line if it isn't empty": a line is its bytes with its 0A
+unfoldable pub lines_of : List ℕ → List (List ℕ)
+lines_of [] = []
+lines_of (b ∷ s) = cond (eqb b 10) ((b ∷ []) ∷ lines_of s) (on_first b (lines_of s))
 
 -- ---- the key line
 
@@ -31,6 +40,15 @@ abbrev pub k0_of : List ℕ → ℕ
 k0_of l = number_at l 16 16
 
 -- ---- what is printed: "Every printed line ends with byte 0A."
+
+-- a number n below 10 ^ k in decimal
+unfoldable pub spelled : ℕ → ℕ → List ℕ
+spelled zero n = []
+spelled (suc k) n = cond (ltb n 10) ((n + 48) ∷ []) (spelled k (n / 10) ++ (n % 10 + 48) ∷ [])
+
+-- every number of 64 bits is below 10 ^ 20
+abbrev pub decimal : ℕ → List ℕ
+decimal n = spelled 20 n
 
 -- "key refused", 0A
 abbrev pub key_refused_text : List ℕ

@@ -2,10 +2,9 @@
 ghost use Rattle.std.specs.Prelude.{◌≡◌, ◌++◌, ◌+◌, ◌^◌, ◌<◌, ◌≤◌, length};
 ghost use Rattle.line.specs.Reader.{number_at, serial_of};
 ghost use Rattle.refusals.specs.declared.Answer.TheVariants.{Wrote, Refused};
-ghost use Rattle.texts.specs.Texts.{decimal, Appended};
 ghost use Rattle.listing.specs.declared.Key.TheVariants.{Unread, Known};
-ghost use Rattle.listing.specs.Listing.{is_key, refusal_text, report, answer_of, one, total};
-ghost use Rattle.listing.specs.Chunks.{pushing, pushed, gathering, key_of, key_text, answering, Ends, ended_as, ending, Feeds, finishing, closing, Kept, Remembers};
+ghost use Rattle.listing.specs.Listing.{is_key, decimal, refusal_text, report, answer_of, one, total};
+ghost use Rattle.listing.specs.Chunks.{pushing, pushed, gathering, Appended, key_of, key_text, answering, Ends, ended_as, ending, Feeds, finishing, closing, Kept, Remembers};
 
 use refusals::{Answer, Refusal};
 use serials::Remembered;
@@ -53,13 +52,43 @@ pub struct Fed {
     pub said: usize,
 }
 
+// Writes a text behind the first n bytes of out, and answers where it ends.
+fn append(out: &mut [u8], n: usize, text: &[u8]) -> usize
+    requires { (length text.now ≤ 64) × (n + length text.now ≤ length out.old) }
+    ensures { Appended out.old n text.now out.new result × (result ≡ n + length text.now) }
+{
+    let mut i = 0;
+    while i < text.len() {
+        out[n + i] = text[i];
+        i += 1;
+    }
+    n + text.len()
+}
+
+// Writes a number in decimal behind the first n bytes of out, and answers where it ends.
+fn append_decimal(out: &mut [u8], n: usize, x: u64) -> usize
+    requires { (n ≤ 2 ^ 16) × (n + 20 ≤ length out.old) }
+    ensures { Appended out.old n (decimal x) out.new result × (result ≤ n + 20) }
+{
+    let mut text = [0u8; 20];
+    let mut rest = x;
+    let mut i = 19;
+    while rest >= 10 {
+        text[i] = (rest % 10) as u8 + 48;
+        rest /= 10;
+        i -= 1;
+    }
+    text[i] = rest as u8 + 48;
+    append(out, n, &text[i..])
+}
+
 // Writes a text and a number in decimal behind the first n bytes of out, and answers where they end.
 fn append_field(out: &mut [u8], n: usize, text: &[u8], x: u64) -> usize
     requires { ((length text.now ≤ 16) × (n ≤ 2 ^ 10)) × (n + length text.now + 20 ≤ length out.old) }
     ensures { Appended out.old n (text.now ++ decimal x) out.new result × (result ≤ n + length text.now + 20) }
 {
-    let a = texts::append(out, n, text);
-    texts::append_decimal(out, a, x)
+    let a = append(out, n, text);
+    append_decimal(out, a, x)
 }
 
 // Writes a refusal's number, and for 7 its place.
@@ -68,7 +97,7 @@ fn append_refusal(out: &mut [u8], n: usize, r: Refusal) -> usize
     ensures { Appended out.old n (refusal_text r) out.new result × (result ≤ n + 44) }
 {
     let k = refusals::number(r);
-    let a = texts::append_decimal(out, n, k as u64);
+    let a = append_decimal(out, n, k as u64);
     if k != 7 {
         return a;
     }
@@ -80,9 +109,9 @@ fn put_opened(out: &mut [u8], x: u64, count: u32) -> usize
     requires { 128 ≤ length out.old }
     ensures { Appended out.old 0 (report x (Wrote count)) out.new result }
 {
-    let a = texts::append_decimal(out, 0, x);
+    let a = append_decimal(out, 0, x);
     let b = append_field(out, a, b" opened ", count as u64);
-    texts::append(out, b, b"\n")
+    append(out, b, b"\n")
 }
 
 // Writes the report of line x, which was refused.
@@ -90,10 +119,10 @@ fn put_refused(out: &mut [u8], x: u64, r: Refusal) -> usize
     requires { 128 ≤ length out.old }
     ensures { Appended out.old 0 (report x (Refused r)) out.new result }
 {
-    let a = texts::append_decimal(out, 0, x);
-    let b = texts::append(out, a, b" refused ");
+    let a = append_decimal(out, 0, x);
+    let b = append(out, a, b" refused ");
     let c = append_refusal(out, b, r);
-    texts::append(out, c, b"\n")
+    append(out, c, b"\n")
 }
 
 // Writes the total.
@@ -104,7 +133,7 @@ fn put_total(out: &mut [u8], lines: u64, opened: u64) -> usize
     let a = append_field(out, 0, b"lines ", lines);
     let b = append_field(out, a, b" opened ", opened);
     let c = append_field(out, b, b" refused ", lines - opened);
-    texts::append(out, c, b"\n")
+    append(out, c, b"\n")
 }
 
 // The number of the n digits from place a on.
@@ -211,7 +240,7 @@ fn put_key(out: &mut [u8], key: Key) -> usize
     ensures { Appended out.old 0 (key_text key) out.new result }
 {
     match key {
-        Key::Bad => texts::append(out, 0, b"key refused\n"),
+        Key::Bad => append(out, 0, b"key refused\n"),
         Key::Unread => 0,
         Key::Known { .. } => 0,
     }
@@ -359,7 +388,7 @@ pub fn close(t: Lister, out: &mut [u8]) -> usize
 {
     let key = t.key;
     match key {
-        Key::Unread => texts::append(out, 0, b"key refused\n"),
+        Key::Unread => append(out, 0, b"key refused\n"),
         Key::Known { .. } => put_total(out, t.lines, t.opened),
         Key::Bad => 0,
     }

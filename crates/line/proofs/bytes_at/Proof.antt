@@ -1,5 +1,9 @@
 -- `line::bytes_at` meets its contract. The invariant: the first i bytes are read.
-use Rattle.std.proofs.Common.{◌≡◌, ◌+◌, ◌-◌, ◌*◌, ◌≤◌, length, take, refl, arith, length-set, rules}
+use borrow.Author.Rules.{rules}
+use mathlib.Core.Path.{◌≡◌, refl}
+use Prim.Native.Nat.{◌≤◌, ◌-◌, ◌*◌, ◌+◌}
+use native.Mathlib.Omega.{arith}
+use lib.ListN.{length, take, length-set}
 use Rattle.words.specs.Lists.{upto}
 use Rattle.frame.proofs.Laws.{upto_turn}
 use Rattle.line.specs.Reader.{number_at}

@@ -1,5 +1,9 @@
 -- `line::digit_byte` meets its contract: the quotient is 0 up to 9 and 1 from 10 on, and so gives the case of `hex_digit`.
-use Rattle.std.proofs.Common.{◌≡◌, ℕ, ◌+◌, ◌*◌, ◌/◌, ◌<◌, arith, rules, le-ltb, lt-ltb}
+use borrow.Author.Rules.{rules}
+use borrow.Author.Tests.{lt-ltb, le-ltb}
+use mathlib.Core.Path.{◌≡◌}
+use Prim.Native.Nat.{ℕ, ◌+◌, ◌*◌, ◌/◌, ◌<◌}
+use native.Mathlib.Omega.{arith}
 use Rattle.words.proofs.Cases.{by_lt}
 use Rattle.line.specs.Line.{hex_digit}
 use Rattle.line.proofs.digit_byte.Statement.{statement}

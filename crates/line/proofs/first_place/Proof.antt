@@ -1,27 +1,25 @@
--- `line::first_place` meets its contract: each turn shows that the place is farther on. Assumes nothing.
-use Rattle.std.proofs.Common.{◌-◌, ◌<◌, ◌≤◌, length, sym, ◌∙◌, arith, rules}
+-- `line::first_place` meets its contract: the lengths stand in the first twenty bytes, and where these stand, the place of the 0A is known. Assumes nothing.
+use Prim.Native.Nat.{ℕ, ◌≤◌, ◌<◌, ◌-◌}
+use mathlib.Core.Path.{◌≡◌, sym, ◌∙◌}
+use mathlib.Core.List.{List}
+use native.Mathlib.Omega.{arith}
+use borrow.Author.Rules.{rules}
 use borrow.Author.Tests.{not-true, not-false}
-use Rattle.line.specs.Reader.{place}
-use Rattle.line.proofs.Places.{all_stand, place_farther, place_here}
+use lib.ListN.{length}
+use Rattle.line.specs.Reader.{place, end_of}
+use Rattle.line.proofs.Places.{all_stand, place_farther, place_here, fits_late}
 use Rattle.line.proofs.Ends.{place_small}
 use Rattle.line.proofs.first_place.Statement.{statement}
 use Rattle.line.proofs.first_place.Tie as tie
 
 abbrev invariant-loop : tie.invariant-loop
-invariant-loop s e k₀ k = (k ≤ place s) × (place s < 2150)
+invariant-loop s k₀ e k = (20 ≤ k) × (k ≤ place s) × (e ≡ end_of s)
 
 abbrev decreases-loop : tie.decreases-loop
-decreases-loop s e k₀ k = length s - k
+decreases-loop s k₀ e k = length s - k
 
--- the byte at k may not stand there
-here : tie.Need-returns invariant-loop decreases-loop
-here c = place_here _ _ (omega arith) c.before.before.before.loop.invariant.0 (sym c.before.fits-at.ensures ∙ not-true _ c.if1.true)
-
--- it may
-farther : tie.Need-loop-preserved invariant-loop decreases-loop
-farther c =
-    let inv = c.before.before.before.loop.invariant in
-    (place_farther _ _ (omega arith) inv.0 (sym c.before.fits-at.ensures ∙ not-false _ c.if1.false), inv.1)
+small : (s : List ℕ) (k : ℕ) → k ≡ place s → (k ≡ place s) × (k < 2150)
+small s k e = (e, omega (arith, place_small s))
 
 pub first_place_spec : {M : Type 1} → statement M
 first_place_spec =
@@ -29,12 +27,14 @@ first_place_spec =
     (tie.spec
     invariant-loop
     decreases-loop
-    (λ c. (omega arith, place_small _))
+    (λ c κs. search rules)
+    (λ c. small _ _ (omega arith))
+    (λ c κs. search rules)
+    (λ c. (omega arith, omega arith, c.end_of_lem.ensures.0))
+    (λ c. search rules)
+    (λ c κs. search rules)
+    (λ c. small _ _ (place_here _ _ (omega arith) (omega arith) (sym (fits_late _ _ _ (omega arith) (omega arith) (omega arith) c.before.before.before.before.loop.invariant.2) ∙ sym c.before.stands_at.ensures ∙ not-true _ c.if2.true)))
     (λ c. search rules)
     (λ c. search rules)
-    (λ c κs. ((omega arith, c.before.loop.invariant.0), c.before.before.before.requires))
-    here
-    (λ c. search rules)
-    (λ c. search rules)
-    farther
-    (λ c. all_stand _ _ (omega arith) c.before.loop.invariant.0))
+    (λ c. (omega arith, place_farther _ _ (omega arith) (omega arith) (sym (fits_late _ _ _ (omega arith) (omega arith) (omega arith) c.before.before.before.before.loop.invariant.2) ∙ sym c.before.stands_at.ensures ∙ not-false _ c.if2.false), c.before.before.before.before.loop.invariant.2))
+    (λ c. small _ _ (all_stand _ _ (omega arith) (omega arith))))

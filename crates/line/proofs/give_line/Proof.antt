@@ -1,5 +1,6 @@
 -- `line::give_line` meets its contract: the test of the room picks the case.
-use Rattle.std.proofs.Common.{arith, rules}
+use borrow.Author.Rules.{rules}
+use native.Mathlib.Omega.{arith}
 use Rattle.refusals.proofs.Answers.{gives, gives_none}
 use Rattle.line.proofs.Writing.{line_length_lem}
 use Rattle.line.proofs.give_line.Statement.{statement}

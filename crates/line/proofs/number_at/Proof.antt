@@ -1,5 +1,8 @@
 -- `line::number_at` meets its contract: after i turns v is the number of the first i digits, which is below 2 ^ 49. Assumes nothing.
-use Rattle.std.proofs.Common.{◌≡◌, ◌+◌, ◌-◌, ◌≤◌, arith, rules}
+use Prim.Native.Nat.{◌≤◌, ◌-◌, ◌+◌}
+use mathlib.Core.Path.{◌≡◌}
+use native.Mathlib.Omega.{arith}
+use borrow.Author.Rules.{rules}
 use Rattle.line.specs.Reader.{number_at}
 use Rattle.line.proofs.Shape.{num_small, num_next, num_zero}
 use Rattle.line.proofs.number_at.Statement.{statement}
@@ -24,7 +27,6 @@ number_at_spec =
     (λ c.
     let a = c.before.before.before.args in
     omega (arith, num_small a.s.now a.a c.before.loop.i (omega arith)))
-    (λ c. search rules)
     (λ c. search rules)
     (λ c κs. search rules)
     (λ c.

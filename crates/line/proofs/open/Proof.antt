@@ -1,5 +1,5 @@
 -- `line::open` meets its contract: the reading decides.
-use Rattle.std.proofs.Common.{rules}
+use borrow.Author.Rules.{rules}
 use Rattle.line.proofs.Opener.{refused_line, fields_line, fields_read}
 use Rattle.line.proofs.open.Statement.{statement}
 use Rattle.line.proofs.open.Tie as tie

@@ -1,5 +1,9 @@
 -- `line::open_bytes` meets its contract: what was read is opened.
-use Rattle.std.proofs.Common.{ℕ, List, ◌∙◌, ap₂, arith, rules}
+use borrow.Author.Rules.{rules}
+use mathlib.Core.Path.{ap₂, ◌∙◌}
+use mathlib.Core.List.{List}
+use Prim.Native.Nat.{ℕ}
+use native.Mathlib.Omega.{arith}
 use Rattle.frame.specs.Frames.{opening}
 use Rattle.line.proofs.open_bytes.Statement.{statement}
 use Rattle.line.proofs.open_bytes.Tie as tie

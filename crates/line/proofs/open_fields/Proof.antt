@@ -1,5 +1,10 @@
 -- `line::open_fields` meets its contract: the memory for label and sealed bytes has just their lengths.
-use Rattle.std.proofs.Common.{ℕ, replicate, sym, ◌∙◌, ap₂, arith, length-take-le, rules}
+use borrow.Author.Rules.{rules}
+use mathlib.Core.Path.{sym, ap₂, ◌∙◌}
+use Prim.Native.Nat.{ℕ}
+use native.Mathlib.Omega.{arith}
+use lib.ListN.{replicate}
+use lib.Seq.{length-take-le}
 use Rattle.frame.specs.Frames.{opening}
 use Rattle.line.specs.Reader.{bytes_at}
 use Rattle.line.proofs.Bytes.{fields_taken}

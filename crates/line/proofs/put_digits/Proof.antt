@@ -1,5 +1,10 @@
 -- `line::put_digits` meets its contract. The invariant: the digits of x that are left, then what is written, are the whole.
-use Rattle.std.proofs.Common.{◌≡◌, ◌≤◌, ◌++◌, length, drop, refl, ◌∙◌, append-nil, arith, length-set, rules}
+use mathlib.Core.Path.{◌≡◌, refl, ◌∙◌}
+use mathlib.Core.List.{◌++◌, append-nil}
+use Prim.Native.Nat.{◌≤◌}
+use native.Mathlib.Omega.{arith}
+use borrow.Author.Rules.{rules}
+use lib.ListN.{length, drop, length-set}
 use lib.Seq.{drop-length}
 use Rattle.line.specs.Line.{hex_digits}
 use Rattle.line.proofs.Writing.{digits_turn}

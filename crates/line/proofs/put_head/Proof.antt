@@ -1,5 +1,6 @@
 -- `line::put_head` meets its contract: each field is written into its own place.
-use Rattle.std.proofs.Common.{arith, rules}
+use native.Mathlib.Omega.{arith}
+use borrow.Author.Rules.{rules}
 use Rattle.line.proofs.Writing.{head_put}
 use Rattle.line.proofs.put_head.Statement.{statement}
 use Rattle.line.proofs.put_head.Tie as tie

@@ -1,5 +1,10 @@
 -- `line::put_hex` meets its contract. The invariant: the digits of i bytes are written, and the rest is as it was.
-use Rattle.std.proofs.Common.{◌≡◌, ℕ, ◌+◌, ◌-◌, ◌*◌, ◌≤◌, ◌++◌, length, get_or, take, drop, refl, ap, ◌∙◌, arith, rules}
+use borrow.Author.Rules.{rules}
+use mathlib.Core.Path.{◌≡◌, refl, ap, ◌∙◌}
+use mathlib.Core.List.{◌++◌}
+use Prim.Native.Nat.{ℕ, ◌≤◌, ◌-◌, ◌*◌, ◌+◌}
+use native.Mathlib.Omega.{arith}
+use lib.ListN.{length, get_or, take, drop}
 use Rattle.words.proofs.Laws.{middle}
 use Rattle.line.specs.Line.{hex_digits, hex}
 use Rattle.line.proofs.Writing.{hex_turn, hex_all}

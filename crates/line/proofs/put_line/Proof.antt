@@ -1,5 +1,8 @@
 -- `line::put_line` meets its contract: the head, the label and the sealed bytes are written each into its own place, and the 0A behind them.
-use Rattle.std.proofs.Common.{◌+◌, ◌*◌, length, refl, ap, ◌∙◌, rules}
+use Prim.Native.Nat.{◌+◌, ◌*◌}
+use mathlib.Core.Path.{refl, ap, ◌∙◌}
+use borrow.Author.Rules.{rules}
+use lib.ListN.{length}
 use Rattle.line.specs.Calls.{frame_of}
 use Rattle.line.proofs.Writing.{line_put, line_behind}
 use Rattle.line.proofs.put_line.Statement.{statement}

@@ -1,5 +1,6 @@
 -- `line::refuse` meets its contract: each variant is its case. Assumes nothing.
-use Rattle.std.proofs.Common.{sym, ap, rules}
+use mathlib.Core.Path.{ap, sym}
+use borrow.Author.Rules.{rules}
 use Rattle.line.specs.Workings.{refused_as}
 use Rattle.line.proofs.refuse.Statement.{statement}
 use Rattle.line.proofs.refuse.Tie as tie

@@ -1,5 +1,6 @@
 -- `line::stands_at` meets its contract: the tests that led to each `return` pick the case of `stands`. Assumes nothing.
-use Rattle.std.proofs.Common.{rules, le-ltb, lt-ltb, eq-eqb, ne_eqb}
+use borrow.Author.Rules.{rules}
+use borrow.Author.Tests.{lt-ltb, le-ltb, eq-eqb, ne_eqb}
 use Rattle.line.specs.Reader.{stands}
 use Rattle.line.proofs.stands_at.Statement.{statement}
 use Rattle.line.proofs.stands_at.Tie as tie

@@ -1,5 +1,11 @@
 -- `line::write` meets its contract: what sealing answers decides, and then the room.
-use Rattle.std.proofs.Common.{ℕ, List, length, sym, ap, ◌∙◌, arith, length-take-le, rules}
+use borrow.Author.Rules.{rules}
+use mathlib.Core.Path.{sym, ap, ◌∙◌}
+use mathlib.Core.List.{List}
+use Prim.Native.Nat.{ℕ}
+use native.Mathlib.Omega.{arith}
+use lib.ListN.{length}
+use lib.Seq.{length-take-le}
 use Rattle.refusals.specs.Refusals.{giving}
 use Rattle.line.specs.Line.{line_of}
 use Rattle.line.specs.Calls.{frame_of}

@@ -1,7 +1,7 @@
 -- `listing::append_field` meets its contract: the text, then the number.
 use borrow.Author.Rules.{rules}
 use native.Mathlib.Omega.{arith}
-use Rattle.texts.proofs.Texts.{and_then}
+use Rattle.listing.proofs.Texts.{and_then}
 use Rattle.listing.proofs.append_field.Statement.{statement}
 use Rattle.listing.proofs.append_field.Tie as tie
 
@@ -12,4 +12,4 @@ append_field_spec =
     (λ c κs. search rules)
     (λ c κs. search rules)
     (λ c. search rules)
-    (λ c. (and_then c.before.before.before.before.before.before.append.ensures c.before.before.append-decimal.ensures.0 (omega arith), omega arith)))
+    (λ c. (and_then c.before.before.before.before.before.before.append.ensures.0 c.before.before.append-decimal.ensures.0 (omega arith), omega arith)))

@@ -3,7 +3,7 @@ use borrow.Author.Rules.{rules}
 use borrow.Author.Tests.{eq-eqb, ne_eqb}
 use mathlib.Core.List.{append-nil}
 use native.Mathlib.Omega.{arith}
-use Rattle.texts.proofs.Texts.{and_then}
+use Rattle.listing.proofs.Texts.{and_then}
 use Rattle.listing.proofs.append_refusal.Statement.{statement}
 use Rattle.listing.proofs.append_refusal.Tie as tie
 

@@ -2,7 +2,7 @@
 use borrow.Author.Rules.{rules}
 use mathlib.Core.Path.{refl}
 use Rattle.listing.specs.Chunks.{ending}
-use Rattle.texts.proofs.Texts.{nothing_appended}
+use Rattle.listing.proofs.Texts.{nothing_appended}
 use Rattle.listing.proofs.end_line.Statement.{statement}
 use Rattle.listing.proofs.end_line.Tie as tie
 

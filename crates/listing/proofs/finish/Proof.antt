@@ -5,7 +5,7 @@ use mathlib.Core.Path.{refl, sym}
 use lib.Seq.{length-take-le}
 use native.Mathlib.Omega.{arith}
 use Rattle.listing.specs.Chunks.{finishing}
-use Rattle.texts.proofs.Texts.{nothing_appended}
+use Rattle.listing.proofs.Texts.{nothing_appended}
 use Rattle.listing.proofs.finish.Statement.{statement}
 use Rattle.listing.proofs.finish.Tie as tie
 

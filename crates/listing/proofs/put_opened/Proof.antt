@@ -1,7 +1,7 @@
 -- `listing::put_opened` meets its contract: number, text and count, each behind the other.
 use borrow.Author.Rules.{rules}
 use native.Mathlib.Omega.{arith}
-use Rattle.texts.proofs.Texts.{and_then}
+use Rattle.listing.proofs.Texts.{and_then}
 use Rattle.listing.proofs.put_opened.Statement.{statement}
 use Rattle.listing.proofs.put_opened.Tie as tie
 
@@ -15,4 +15,4 @@ put_opened_spec =
     (λ c. search rules)
     (λ c κs. search rules)
     (λ c. search rules)
-    (λ c. and_then c.before.before.before.before.before.before.before.before.before.before.before.before.append-decimal.ensures.0 (and_then c.before.before.before.before.before.before.before.append-field.ensures.0 c.before.before.append.ensures (omega arith)) (omega arith)))
+    (λ c. and_then c.before.before.before.before.before.before.before.before.before.before.before.before.append-decimal.ensures.0 (and_then c.before.before.before.before.before.before.before.append-field.ensures.0 c.before.before.append.ensures.0 (omega arith)) (omega arith)))

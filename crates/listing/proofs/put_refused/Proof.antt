@@ -1,7 +1,7 @@
 -- `listing::put_refused` meets its contract: number, text and refusal, each behind the other.
 use borrow.Author.Rules.{rules}
 use native.Mathlib.Omega.{arith}
-use Rattle.texts.proofs.Texts.{and_then}
+use Rattle.listing.proofs.Texts.{and_then}
 use Rattle.listing.proofs.put_refused.Statement.{statement}
 use Rattle.listing.proofs.put_refused.Tie as tie
 
@@ -16,4 +16,4 @@ put_refused_spec =
     (λ c. search rules)
     (λ c κs. search rules)
     (λ c. search rules)
-    (λ c. and_then c.before.before.before.before.before.before.before.before.before.before.before.before.before.before.before.before.append-decimal.ensures.0 (and_then c.before.before.before.before.before.before.before.before.before.before.before.append.ensures (and_then c.before.before.before.before.before.before.before.append-refusal.ensures.0 c.before.before.append2.ensures (omega arith)) (omega arith)) (omega arith)))
+    (λ c. and_then c.before.before.before.before.before.before.before.before.before.before.before.before.before.before.before.before.append-decimal.ensures.0 (and_then c.before.before.before.before.before.before.before.before.before.before.before.append.ensures.0 (and_then c.before.before.before.before.before.before.before.append-refusal.ensures.0 c.before.before.append2.ensures.0 (omega arith)) (omega arith)) (omega arith)))

@@ -1,7 +1,7 @@
 -- `listing::put_total` meets its contract: three fields, each behind the other.
 use borrow.Author.Rules.{rules}
 use native.Mathlib.Omega.{arith}
-use Rattle.texts.proofs.Texts.{and_then}
+use Rattle.listing.proofs.Texts.{and_then}
 use Rattle.listing.proofs.put_total.Statement.{statement}
 use Rattle.listing.proofs.put_total.Tie as tie
 
@@ -19,4 +19,4 @@ put_total_spec =
     (λ c. search rules)
     (λ c κs. search rules)
     (λ c. search rules)
-    (λ c. and_then c.before.before.before.before.before.before.before.before.before.before.before.before.before.before.before.before.before.append-field.ensures.0 (and_then c.before.before.before.before.before.before.before.before.before.before.before.before.append-field2.ensures.0 (and_then c.before.before.before.before.before.before.before.append-field3.ensures.0 c.before.before.append.ensures (omega arith)) (omega arith)) (omega arith)))
+    (λ c. and_then c.before.before.before.before.before.before.before.before.before.before.before.before.before.before.before.before.before.append-field.ensures.0 (and_then c.before.before.before.before.before.before.before.before.before.before.before.before.append-field2.ensures.0 (and_then c.before.before.before.before.before.before.before.append-field3.ensures.0 c.before.before.append.ensures.0 (omega arith)) (omega arith)) (omega arith)))

@@ -24,6 +24,4 @@ number_spec =
     (λ c. search rules)
     (λ c. search rules)
     (λ c. search rules)
-    (λ c. search rules)
-    (λ c. search rules)
     (λ c. search rules))

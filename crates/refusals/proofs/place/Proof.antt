@@ -24,6 +24,4 @@ place_spec =
     (λ c. search rules)
     (λ c. search rules)
     (λ c. search rules)
-    (λ c. search rules)
-    (λ c. search rules)
     (λ c. search rules))

@@ -1,4 +1,0 @@
-pub mod Report
-pub mod Compare
-pub mod Files
-pub mod Workings
