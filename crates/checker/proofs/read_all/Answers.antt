@@ -1,5 +1,5 @@
 -- Nothing is remembered yet, so that the serials of the lines that opened rise.
-use Rattle.std.proofs.Common.{rules, arith}
+use Rattle.std.proofs.Common.{arith}
 use Rattle.listing.proofs.Used.{remembers_none}
 use Rattle.checker.proofs.read_all.Goals as goal
 
