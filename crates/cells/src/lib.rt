@@ -1,4 +1,6 @@
 // Sixteen cells, and what is done to them whatever their width is: sum, shuffle, rows and columns.
+#![tactic(auto)]
+
 ghost use Rattle.std.specs.Prelude.{◌≡◌, [], ◌∷◌, ◌<◌};
 ghost use Rattle.cells.specs.Cells.{cell, added, shuffled, unshuffled};
 ghost use Rattle.cells.specs.Workings.{of_rows, transposed};
@@ -15,7 +17,7 @@ pub fn of_rows(r: [[u8; 4]; 4]) -> Cells
 }
 
 // A block, a tweak or a schedule word: sixteen cells, row by row in a square of 4 by 4.
-#[derive(Drop)]
+#[derive(Clone, Copy)]
 pub struct Cells {
     pub at: [u8; 16],
 }

@@ -1,4 +1,6 @@
 // What QARMA-128 does to sixteen cells of 8 bits: boxes, mix and tweak step; and a word of 128 bits as cells.
+#![tactic(auto)]
+
 ghost use Rattle.std.specs.Prelude.{◌≡◌, [], ◌∷◌, ◌<◌};
 ghost use Rattle.words.specs.Lists.{◌!◌};
 ghost use Rattle.cells.specs.Cells.{Below, cell, cut, joined, looked, rotated, row_sum, mixed_column, mixed, bit_stepped, bit_unstepped, stepped, unstepped};
@@ -14,7 +16,7 @@ use cells::Cells;
 const ENTRIES: [[u8; 4]; 4] = [[0, 1, 4, 5], [5, 0, 1, 4], [4, 5, 0, 1], [1, 4, 5, 0]];
 
 // A word of 128 bits: two numbers, the high one first.
-#[derive(Drop)]
+#[derive(Clone, Copy)]
 pub struct Pair {
     pub high: u64,
     pub low: u64,

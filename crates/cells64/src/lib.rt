@@ -1,4 +1,6 @@
 // What QARMA-64 does to sixteen cells of 4 bits: boxes, mix and tweak step; and a word of 64 bits as cells.
+#![tactic(auto)]
+
 ghost use Rattle.std.specs.Prelude.{◌≡◌, [], ◌∷◌, ◌<◌};
 ghost use Rattle.words.specs.Lists.{◌!◌};
 ghost use Rattle.cells.specs.Cells.{Below, cell, cut, joined, looked, rotated, row_sum, mixed_column, mixed, bit_stepped, bit_unstepped, stepped, unstepped};

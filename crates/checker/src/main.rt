@@ -1,4 +1,6 @@
 // The file checker: prints the listing of standard input.
+#![tactic(auto)]
+
 ghost use Rattle.std.specs.Prelude.{◌+◌, ◌^◌, ◌<◌, ◌≤◌, ◌≡◌, true, false, length};
 ghost use Rattle.listing.specs.Chunks.{Kept, Remembers};
 
@@ -9,7 +11,7 @@ use listing::{Key, Lister};
 const TEXT_MAX: usize = 128;
 
 // What is kept of the listing, how many bytes of the output wait to be written, how many of the chunk were taken, and whether to go on.
-#[derive(Drop)]
+#[derive(Clone, Copy)]
 struct Progress {
     state: Lister,
     used: usize,
@@ -18,7 +20,7 @@ struct Progress {
 }
 
 // Where the output goes on, and whether it does.
-#[derive(Drop)]
+#[derive(Clone, Copy)]
 struct Waiting {
     at: usize,
     going: bool,

@@ -1,4 +1,6 @@
 // What the engine passes along in either width: the schedule, and block and tweak between two rounds.
+#![tactic(auto)]
+
 ghost use Rattle.std.specs.Prelude.{◌≡◌};
 ghost use Rattle.cells.specs.Cells.{added};
 ghost use Rattle.cipher.specs.Engine.{forward_word};
@@ -6,7 +8,7 @@ ghost use Rattle.cipher.specs.Engine.{forward_word};
 use cells::Cells;
 
 // A schedule: outer words w0 and w1, core word k0, centre word k1.
-#[derive(Drop)]
+#[derive(Clone, Copy)]
 pub struct Schedule {
     pub w0: Cells,
     pub w1: Cells,
@@ -15,7 +17,7 @@ pub struct Schedule {
 }
 
 // The block and the tweak between two rounds.
-#[derive(Drop)]
+#[derive(Clone, Copy)]
 pub struct State {
     pub block: Cells,
     pub tweak: Cells,

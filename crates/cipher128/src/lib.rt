@@ -1,4 +1,6 @@
 // The QARMA-128 engine: schedule, rounds, the seven steps, turning. One engine runs both ways.
+#![tactic(auto)]
+
 ghost use Rattle.std.specs.Prelude.{◌≡◌, ◌<◌, ◌≤◌};
 ghost use Rattle.cells.specs.Cells.{added, stepped, unstepped};
 ghost use Rattle.cells128.specs.Qarma128.{qarma128};
@@ -91,7 +93,7 @@ const ALPHA: [[u8; 4]; 4] = [
 ];
 
 // A schedule's four words.
-#[derive(Drop)]
+#[derive(Clone, Copy)]
 pub struct Words {
     pub w0: Pair,
     pub w1: Pair,
@@ -100,7 +102,7 @@ pub struct Words {
 }
 
 // What a block call answers.
-#[derive(Drop)]
+#[derive(Clone, Copy)]
 pub enum BlockAnswer {
     Word(Pair),
     Refused(Refusal),

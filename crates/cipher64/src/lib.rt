@@ -1,4 +1,6 @@
 // The QARMA-64 engine: schedule, rounds, the seven steps, turning. One engine runs both ways.
+#![tactic(auto)]
+
 ghost use Rattle.std.specs.Prelude.{◌≡◌, ◌<◌, ◌≤◌};
 ghost use Rattle.cells.specs.Cells.{Below, added, stepped, unstepped};
 ghost use Rattle.cells64.specs.Qarma64.{qarma64};
@@ -26,7 +28,7 @@ const CONSTANTS: [[u8; 16]; 8] = [
 const ALPHA: [u8; 16] = [12, 0, 10, 12, 2, 9, 11, 7, 12, 9, 7, 12, 5, 0, 13, 13];
 
 // A schedule's four words as numbers.
-#[derive(Drop)]
+#[derive(Clone, Copy)]
 pub struct Words {
     pub w0: u64,
     pub w1: u64,
@@ -35,7 +37,7 @@ pub struct Words {
 }
 
 // What a block call answers.
-#[derive(Drop)]
+#[derive(Clone, Copy)]
 pub enum BlockAnswer {
     Word(u64),
     Refused(Refusal),

@@ -1,4 +1,6 @@
 // Frames: sealing and opening, box 1 and r = 7.
+#![tactic(auto)]
+
 ghost use Rattle.std.specs.Prelude.{◌≡◌, ◌+◌, ◌*◌, ◌/◌, ◌^◌, ◌<◌, ◌≤◌, ◌++◌, eqb, length, get_or, take, drop};
 ghost use Rattle.words.specs.Digits.{laid};
 ghost use Rattle.words.specs.Lists.{sum, upto};
@@ -53,7 +55,7 @@ fn engine(s: Schedule, t: u64, p: u64) -> u64
 }
 
 // What filling answers: the word, and how many bytes were added, 0 to 7.
-#[derive(Drop)]
+#[derive(Clone, Copy)]
 struct Filled {
     word: u64,
     added: usize,
@@ -87,7 +89,7 @@ fn fill_block(bytes: &[u8], i: usize) -> Filled
 }
 
 // A block as a word, filled if it was short, and the word that it is enciphered to.
-#[derive(Drop)]
+#[derive(Clone, Copy)]
 struct Enciphered {
     from: u64,
     to: u64,

@@ -1,4 +1,6 @@
 // The calls of the C interface: numbers and byte slices in, one number out.
+#![tactic(auto)]
+
 ghost use Rattle.std.specs.Prelude.{◌≡◌, ◌≤◌, length};
 ghost use Rattle.cipher64.specs.Words.{key_words, turned_words, engine_call, encipher_call, decipher_call};
 ghost use Rattle.cipher128.specs.Words.{key_words as keyWords128, turned_words as turnedWords128, engine_call as engineCall128, encipher_call as encipherCall128, decipher_call as decipherCall128};

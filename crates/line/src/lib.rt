@@ -1,4 +1,6 @@
 // Frame lines: reading, writing and opening.
+#![tactic(auto)]
+
 ghost use Rattle.std.specs.Prelude.{◌≡◌, ◌++◌, ℕ, ◌+◌, ◌*◌, ◌^◌, ◌<◌, ◌≤◌, min, length, get_or, drop};
 ghost use Rattle.refusals.specs.Refusals.{giving};
 ghost use Rattle.frame.specs.Frames.{sealed_size, opening};
@@ -9,7 +11,7 @@ ghost use Rattle.line.specs.Workings.{line_size, FieldsRead, refused_as};
 
 use refusals::{Answer, Refusal};
 
-#[derive(Drop)]
+#[derive(Clone, Copy)]
 pub enum Reading {
     // The fields of a good line, and where its label and its sealed bytes begin.
     Fields {

@@ -1,4 +1,6 @@
 // The file checker's listing, reckoned from the chunks of its input.
+#![tactic(auto)]
+
 ghost use Rattle.std.specs.Prelude.{◌≡◌, ◌++◌, ◌+◌, ◌^◌, ◌<◌, ◌≤◌, length};
 ghost use Rattle.line.specs.Reader.{number_at, serial_of};
 ghost use Rattle.refusals.specs.declared.Answer.TheVariants.{Wrote, Refused};
@@ -13,7 +15,7 @@ use serials::Remembered;
 const LINE_KEPT: usize = 2150;
 
 // What is known of the key line.
-#[derive(Drop)]
+#[derive(Clone, Copy)]
 pub enum Key {
     Unread,
     Known { w0: u64, k0: u64 },
@@ -21,7 +23,7 @@ pub enum Key {
 }
 
 // What is kept between two chunks, beside the first bytes of the line that has not ended and the serials of the lines that opened: the key, how many lines have ended, how many of them opened, and how many bytes are held.
-#[derive(Drop)]
+#[derive(Clone, Copy)]
 pub struct Lister {
     pub key: Key,
     pub lines: u64,
@@ -30,7 +32,7 @@ pub struct Lister {
 }
 
 // How many bytes are held now, how many of the chunk were taken, and whether the last was a 0A.
-#[derive(Drop)]
+#[derive(Clone, Copy)]
 pub struct Gathered {
     pub held: usize,
     pub taken: usize,
@@ -38,14 +40,14 @@ pub struct Gathered {
 }
 
 // A state, and how many bytes there are to print.
-#[derive(Drop)]
+#[derive(Clone, Copy)]
 pub struct Ended {
     pub state: Lister,
     pub said: usize,
 }
 
 // A state, how many bytes of the chunk were taken, and how many there are to print.
-#[derive(Drop)]
+#[derive(Clone, Copy)]
 pub struct Fed {
     pub state: Lister,
     pub taken: usize,

@@ -1,9 +1,11 @@
 // What a refused caller gets, and the number that goes back through C.
+#![tactic(auto)]
+
 ghost use Rattle.std.specs.Prelude.{◌≡◌};
 ghost use Rattle.refusals.specs.Refusals.{number_of, place_of, returned_of};
 
 // The refusals: those of document 01, in the order of its table, and those of document 02.
-#[derive(Drop)]
+#[derive(Clone, Copy)]
 pub enum Refusal {
     Settings,
     Length,
@@ -17,7 +19,7 @@ pub enum Refusal {
 }
 
 // What a call answers that writes to lent memory: how many bytes it wrote, or a refusal.
-#[derive(Drop)]
+#[derive(Clone, Copy)]
 pub enum Answer {
     Wrote { count: u32 },
     Refused(Refusal),

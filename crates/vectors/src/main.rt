@@ -1,6 +1,8 @@
 // Runs the vectors of appendix A.1 of document 000, enciphered and deciphered, and the examples of document 01 about rounds, sealing and opening.
 // Those of appendix A.2, of QARMA-128, cannot be run: our copy of the document has lost their key and tweak. QARMA-128 is run on values of our own,
 // and gives what the second program gives for them.
+#![tactic(auto)]
+
 use cells128::Pair;
 use cipher64::BlockAnswer;
 use cipher128::BlockAnswer as BlockAnswer128;

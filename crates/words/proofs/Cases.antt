@@ -1,7 +1,7 @@
 -- Cases: which case a definition by cases is, and proofs by cases on the order of two numbers, on their being equal, and on a yes or no.
 use mathlib.Core.Bool.{Bool, true, false, false≢true, ◌&&◌}
 use mathlib.Core.Path.{◌≡◌, refl}
-use Prim.Native.Nat.{ℕ, ◌<◌, ◌≤◌, ◌-◌}
+use Prim.Native.Nat.{ℕ, ◌<◌, ◌≤◌}
 use native.Mathlib.Omega.{arith}
 use borrow.Author.Tests.{le-leb, lt-leb, ltb-true, eqb-true, eqb-false, ltb-false}
 use lib.Dec.{leb, ltb, eqb}

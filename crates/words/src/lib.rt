@@ -1,4 +1,6 @@
 // Words as digits of m bits in slices of bytes, the first digit most significant: cells are digits of 4 bits, bytes are digits of 8.
+#![tactic(auto)]
+
 ghost use Rattle.std.specs.Prelude.{◌≡◌, ◌++◌, ◌*◌, ◌^◌, ◌<◌, ◌≤◌, length, get_or, drop};
 ghost use Rattle.words.specs.Digits.{word, digits, laid};
 

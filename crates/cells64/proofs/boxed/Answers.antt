@@ -1,0 +1,13 @@
+-- `boxed` meets its contract: the word given computes to box 2, so the tables are those of the boxes.
+use borrow.Author.Rules.{rules}
+use Rattle.words.specs.Lists.{upto}
+use Rattle.cells64.specs.Workings.{nibbles}
+use Rattle.cells64.proofs.boxed.Goals as goal
+
+pub look-requires : goal.look-requires
+unfolding nibbles upto
+look-requires c = search rules
+
+pub returns : goal.returns
+unfolding nibbles upto
+returns c = c.look.ensures

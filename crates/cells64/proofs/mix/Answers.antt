@@ -1,0 +1,20 @@
+-- `mix` meets its contract: these are the columns that the definition computes to.
+use mathlib.Core.Path.{ap, ◌∙◌}
+use Rattle.cells.specs.Workings.{transposed}
+use Rattle.cells.proofs.Rows.{mixed_columns}
+use Rattle.cells64.specs.Qarma64.{qarma64}
+use Rattle.cells64.proofs.mix.Goals as goal
+
+pub returns : goal.returns
+returns c =
+    c.transpose.ensures
+    ∙ ap transposed c.of_rows.ensures
+    ∙ mixed_columns qarma64 c.args.a
+    c.mix_column.ensures
+    c.take.ensures
+    c.mix_column-2.ensures
+    c.take-2.ensures
+    c.mix_column-3.ensures
+    c.take-3.ensures
+    c.mix_column-4.ensures
+    c.take-4.ensures
