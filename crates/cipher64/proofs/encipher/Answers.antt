@@ -1,0 +1,12 @@
+-- `encipher` meets its contract: `block_call` under the schedule of the key.
+use mathlib.Core.Path.{ap, ◌∙◌}
+use Rattle.cipher64.specs.Words.{block_call}
+use Rattle.cipher.specs.declared.Schedule.{Schedule}
+use Rattle.cipher.proofs.Demands.{schedule_below}
+use Rattle.cipher64.proofs.encipher.Goals as goal
+
+pub block_call-requires : goal.block_call-requires
+block_call-requires c = rw c.key_schedule.ensures (schedule_below 4 _ _ _ _)
+
+pub returns : goal.returns
+returns c = let args = c.args in c.block_call.ensures ∙ ap (λ (s : Schedule). block_call args.number args.rounds s args.tweak args.block) c.key_schedule.ensures
