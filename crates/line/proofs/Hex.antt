@@ -12,7 +12,7 @@ use borrow.Author.Tests.{lt-ltb, le-ltb, ltb-true, ltb-false}
 use Rattle.words.specs.Digits.{digits}
 use Rattle.words.proofs.Cases.{by_lt}
 use Rattle.line.specs.Line.{hex_digit, hex_digits, hex, Frame, line_of}
-use Rattle.line.specs.Reader.{hex_value, number_at, message_length}
+use Rattle.line.specs.Reader.{hex_value, number_at}
 
 pub value_digit : (n : ℕ) → n < 16 → hex_value (hex_digit n) ≡ n
 unfolding hex_value hex_digit
@@ -70,7 +70,9 @@ num_digits xs ys a (suc k) n e h =
     ap (λ (z : List ℕ). get_or z (a + k) 48) (sym (append_assoc xs ds (d ∷ ys)))
     ∙ get_or_at (xs ++ ds) d ys 48 (a + k) (length-append xs ds ∙ ap₂ (λ (x y : ℕ). x + y) e (length_hex_digits k (n / 16)))
     in
-    rw (hex_more k n, p, q, num_digits xs (d ∷ ys) a k (n / 16) e l, value_digit (n % 16) (mod-lt n (lit< tt))) (div-add-mod' n 16)
+    ap (λ (z : List ℕ). number_at z a (suc k)) (ap (λ (z : List ℕ). xs ++ (z ++ ys)) (hex_more k n) ∙ p)
+    ∙ ap₂ (λ (x y : ℕ). x * 16 + y) (num_digits xs (d ∷ ys) a k (n / 16) e l) (ap hex_value q ∙ value_digit (n % 16) (mod-lt n (lit< tt)))
+    ∙ div-add-mod' n 16
 
 pub length_hex : (l : List ℕ) → length (hex l) ≡ 2 * length l
 unfolding hex

@@ -11,13 +11,13 @@ abbrev pub line_size : ℕ → ℕ → ℕ
 line_size l k = 20 + 2 * (l + k) + 1
 
 -- l bytes of label and k sealed bytes stand as digits at these places of s
-pub record FieldsRead (s : List ℕ) (l k label_place sealed_place : ℕ) : Type 0 where
+pub record FieldsRead (s : List ℕ) (l k label_at sealed_at : ℕ) : Type 0 where
   pub label_size : l ≤ 32
   pub sealed_fits : k ≤ 1032
-  pub label_place : label_place ≤ 2 ^ 16
-  pub sealed_place : sealed_place ≤ 2 ^ 16
-  pub label_bytes : (i : ℕ) → i < l → number_at s (label_place + 2 * i) 2 < 256
-  pub sealed_are_bytes : (i : ℕ) → i < k → number_at s (sealed_place + 2 * i) 2 < 256
+  pub label_place : label_at ≤ 2 ^ 16
+  pub sealed_place : sealed_at ≤ 2 ^ 16
+  pub label_bytes : (i : ℕ) → i < l → number_at s (label_at + 2 * i) 2 < 256
+  pub sealed_are_bytes : (i : ℕ) → i < k → number_at s (sealed_at + 2 * i) 2 < 256
 
 -- the refusal of a reading that has no fields
 abbrev pub refused_as : Reading → Answer

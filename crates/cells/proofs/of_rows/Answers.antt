@@ -1,7 +1,7 @@
 -- `of_rows` meets its contract: the loop fills the sixteen cells.
 use mathlib.Core.Path.{ap}
 use mathlib.Core.List.{List}
-use Prim.Native.Nat.{ℕ, ◌-◌}
+use Prim.Native.Nat.{ℕ}
 use Rattle.cells.specs.Workings.{of_rows}
 use Rattle.cells.proofs.Fill.{fills, whole}
 use Rattle.cells.proofs.of_rows.Goals as goal

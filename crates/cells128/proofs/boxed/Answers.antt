@@ -1,7 +1,7 @@
 -- `boxed` meets its contract: the loop fills sixteen cells from the box.
 use mathlib.Core.Path.{ap}
 use mathlib.Core.List.{List}
-use Prim.Native.Nat.{ℕ, ◌-◌}
+use Prim.Native.Nat.{ℕ}
 use Rattle.cells.specs.Cells.{looked}
 use Rattle.cells.proofs.Fill.{fills, whole}
 use Rattle.cells128.proofs.boxed.Goals as goal

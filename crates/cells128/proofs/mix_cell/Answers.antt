@@ -1,7 +1,6 @@
 -- `mix_cell` meets its contract: the loop sums the first j terms.
 use borrow.Author.Rules.{rules}
 use mathlib.Core.Path.{◌≡◌, ap₂}
-use Prim.Native.Nat.{◌-◌}
 use native.Mathlib.Numerals.{add-one}
 use native.Mathlib.Omega.{arith}
 use Rattle.words.specs.Digits.{◌⊕◌}

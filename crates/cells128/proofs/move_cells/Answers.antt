@@ -1,7 +1,7 @@
 -- `move_cells` meets its contract: the loop fills sixteen cells.
 use mathlib.Core.Path.{ap}
 use mathlib.Core.List.{List}
-use Prim.Native.Nat.{ℕ, ◌-◌}
+use Prim.Native.Nat.{ℕ}
 use Rattle.cells.proofs.Fill.{fills, whole}
 use Rattle.cells128.specs.Workings.{moved_cells}
 use Rattle.cells128.proofs.move_cells.Goals as goal

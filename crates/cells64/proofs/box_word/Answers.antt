@@ -16,6 +16,6 @@ pub returns-else-number-eq0 : goal.returns-else-number-eq0
 unfolding nibbles upto
 returns-else-number-eq0 c =
     elim c.if-number-eq1.branch [
-      then-number-eq1 w ↦ rw (w.word-is, w.if-number-eq1.true)
-    | else-number-eq1 w ↦ let e : c.args.number ≡ 2 = omega arith in rw (w.word-is, e)
+      | then-number-eq1 w ↦ rw (w.word-is, w.if-number-eq1.true)
+      | else-number-eq1 w ↦ let e : c.args.number ≡ 2 = omega arith in rw (w.word-is, e)
     ]

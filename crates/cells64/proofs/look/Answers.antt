@@ -1,8 +1,8 @@
 -- `look` meets its contract: the word chosen has the outputs of the box, and the loop fills sixteen cells from it.
 use mathlib.Core.Path.{ap}
 use mathlib.Core.List.{List}
-use Prim.Native.Nat.{ℕ, ◌-◌}
-use Rattle.cells.specs.Cells.{cell, looked}
+use Prim.Native.Nat.{ℕ}
+use Rattle.cells.specs.Cells.{looked}
 use Rattle.cells.proofs.Fill.{fills, whole}
 use Rattle.cells64.proofs.look.Goals as goal
 

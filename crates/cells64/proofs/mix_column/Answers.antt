@@ -1,5 +1,4 @@
 -- `mix_column` meets its contract: the loop fills the four rows.
-use Prim.Native.Nat.{◌-◌}
 use Rattle.cells.proofs.Fill.{fills, whole}
 use Rattle.cells64.proofs.mix_column.Goals as goal
 

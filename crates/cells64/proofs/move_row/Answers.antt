@@ -1,5 +1,4 @@
 -- `move_row` meets its contract: the loop fills the four cells.
-use Prim.Native.Nat.{◌-◌}
 use Rattle.cells.proofs.Fill.{fills, whole}
 use Rattle.cells64.proofs.move_row.Goals as goal
 

@@ -21,8 +21,8 @@ returns c =
     let choice = c.if-block-eq0 in
     let chosen : choice.purpose ≡ purpose args.whole block.result.added =
     elim choice.branch [
-      then-block-eq0 w ↦ w.purpose-is ∙ le_case block.result.added 0 args.whole (args.whole + 1) (omega arith)
-    | else-block-eq0 w ↦ w.purpose-is ∙ gt_case block.result.added 0 args.whole (args.whole + 1) (omega arith)
+      | then-block-eq0 w ↦ w.purpose-is ∙ le_case block.result.added 0 args.whole (args.whole + 1) (omega arith)
+      | else-block-eq0 w ↦ w.purpose-is ∙ gt_case block.result.added 0 args.whole (args.whole + 1) (omega arith)
     ] in
     let t = c.tweak_of.ensures ∙ ap (λ (p : ℕ). tweak p args.serial args.i) (chosen ∙ ap (λ (b : Filled). purpose args.whole b.added) block.ensures) in
     let w = ap (λ (b : Filled). b.word) block.ensures in

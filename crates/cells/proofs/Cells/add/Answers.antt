@@ -1,7 +1,7 @@
 -- `Cells::add` meets its contract: the loop fills the sixteen cells of the sum.
 use mathlib.Core.Path.{ap}
 use mathlib.Core.List.{List}
-use Prim.Native.Nat.{ℕ, ◌-◌}
+use Prim.Native.Nat.{ℕ}
 use Rattle.cells.specs.Cells.{added}
 use Rattle.cells.proofs.Fill.{fills, whole}
 use Rattle.cells.proofs.Cells.add.Goals as goal
