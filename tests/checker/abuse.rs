@@ -8,13 +8,9 @@ use second::listing;
 use second::rng::Rng;
 use std::io;
 
-/// What is said on standard error of an input or an output that fails. A program of rt has no exit
-/// status to say it with.
+/// What is said on standard error of an input or an output that fails. The exit status does not say it.
 const READING_FAILED: &[u8] = b"checker: reading failed\n";
 const WRITING_FAILED: &[u8] = b"checker: writing failed\n";
-
-/// `SIGPIPE` of Linux.
-const PIPE: i32 = 13;
 
 /// Random bytes: as they are, behind a key line, and there with bytes of lines alone.
 fn random_bytes(tries: &mut Tries) -> io::Result<()> {
@@ -71,19 +67,18 @@ fn failing_outputs(tries: &mut Tries) -> io::Result<()> {
     Ok(())
 }
 
-/// A reader that leaves before the checker has written all: SIGPIPE ends it, and if it is ignored, the
-/// checker says that writing failed. What was read until then is the listing.
+/// A reader that leaves before the checker has written all: the checker says that writing failed, since
+/// a program of rt begins with SIGPIPE ignored. What was read until then is the listing.
 fn leaving_readers(tries: &mut Tries) -> io::Result<()> {
     let input = inputs().pop().expect("a long input");
     let listing = listing::listing(&input);
     for feed in [Feed::File, Feed::Pipe(4_096), Feed::OneByOne(4_096)] {
         for count in [0, 1, 100, 65_536, 70_000] {
-            let read = Meant::printing(&listing[..count]);
-            let signal = Some(PIPE);
-            let meant = Meant { signal, ..read };
+            let meant = Meant {
+                printed: &listing[..count],
+                said: WRITING_FAILED,
+            };
             tries.ends(&input, feed, Output::Left(count), meant)?;
-            let said = WRITING_FAILED;
-            let meant = Meant { said, ..read };
             tries.ends(&input, feed, Output::LeftIgnored(count), meant)?;
         }
     }

@@ -34,7 +34,7 @@ pub enum Feed {
 pub enum Output {
     /// To a reader that reads all.
     Read,
-    /// To a reader that leaves after so many bytes. SIGPIPE ends the checker.
+    /// To a reader that leaves after so many bytes.
     Left(usize),
     /// The same for a checker that was started with SIGPIPE ignored.
     LeftIgnored(usize),

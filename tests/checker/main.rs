@@ -16,7 +16,6 @@ use second::listing::{self, KEY_REFUSED};
 use second::qarma::{vectors, Key};
 use std::env;
 use std::io::{self, Write};
-use std::os::unix::process::ExitStatusExt;
 use std::process::ExitCode;
 
 /// The files of many lines, and the lines of each: the serials of all that open are remembered.
@@ -36,39 +35,26 @@ const NO_DIGITS: &[u8] = b"/:`gAFGZ \t\r\0x-+._\x7F\x80\xB0\xFF";
 const CARDS: &[u8] = include_bytes!("../../samples/cards.txt");
 const CARDS_LISTING: &[u8] = include_bytes!("../../samples/cards.listing");
 
-/// What a checker is meant to leave behind. If it is not ended by a signal, its status is 0.
+/// What a checker is meant to leave behind. It is not ended by a signal, and its status is 0.
 #[derive(Clone, Copy)]
 struct Meant<'a> {
     printed: &'a [u8],
     said: &'a [u8],
-    signal: Option<i32>,
 }
 
 impl<'a> Meant<'a> {
     /// This on standard output, and nothing on standard error.
     fn printing(printed: &'a [u8]) -> Self {
-        Self {
-            printed,
-            said: b"",
-            signal: None,
-        }
+        Self { printed, said: b"" }
     }
 
     /// This on standard error, and nothing on standard output.
     fn saying(said: &'a [u8]) -> Self {
-        Self {
-            printed: b"",
-            said,
-            signal: None,
-        }
+        Self { printed: b"", said }
     }
 
     fn agrees(&self, ran: &Ran) -> bool {
-        let ended = match self.signal {
-            None => ran.status.success(),
-            signal => ran.status.signal() == signal,
-        };
-        ended && ran.printed == self.printed && ran.said == self.said
+        ran.status.success() && ran.printed == self.printed && ran.said == self.said
     }
 }
 

@@ -1,4 +1,4 @@
--- c_interface.md: "A value of 128 bits is two numbers, the high one first".
+-- c-interface.md: "A value of 128 bits is two numbers, the high one first".
 use Rattle.std.specs.Prelude.{ℕ, ◌+◌, ◌*◌, ◌/◌, ◌%◌, ◌^◌}
 use Rattle.cells128.specs.declared.Pair.{Pair}
 

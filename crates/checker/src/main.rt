@@ -4,8 +4,8 @@
 ghost use Rattle.std.specs.Prelude.{◌+◌, ◌^◌, ◌<◌, ◌≤◌, ◌≡◌, true, false, length};
 ghost use Rattle.listing.specs.Chunks.{Kept, Remembers};
 
-use libc::{STDERR_FILENO, STDIN_FILENO, STDOUT_FILENO};
 use listing::{Key, Lister};
+use std::io::Read;
 
 // No text that the listing hands out at once is longer.
 const TEXT_MAX: usize = 128;
@@ -26,26 +26,24 @@ struct Waiting {
     going: bool,
 }
 
-// Says on standard error what has failed: a program has no exit status to say it with.
-fn complain(what: &[u8]) {
-    io::write_all(STDERR_FILENO, b"checker: ");
-    io::write_all(STDERR_FILENO, what);
-    io::write_all(STDERR_FILENO, b" failed\n");
+// Says on standard error what has failed. The exit status does not say it.
+fn complain(rt: &impl Eprint, what: &str) {
+    let _ = eprintln!(rt; "checker: {what} failed");
 }
 
 // Writes out what waits.
-fn flush(out: &[u8], used: usize) -> bool
+fn flush(rt: &(impl Print + Eprint), out: &[u8], used: usize) -> bool
     requires { used ≤ length out.now }
 {
-    let written = io::write_all(STDOUT_FILENO, &out[..used]);
+    let written = rt.write_all(&out[..used]).is_ok();
     if !written {
-        complain(b"writing");
+        complain(rt, "writing");
     }
     written
 }
 
 // Where there is room for one more text. What waits is written out first where there is none.
-fn room(out: &[u8], used: usize) -> Waiting
+fn room(rt: &(impl Print + Eprint), out: &[u8], used: usize) -> Waiting
     requires { (used ≤ length out.now) × (128 ≤ length out.now) }
     ensures { (result.at + 128 ≤ length out.now) × (result.at + 128 < 2 ^ 64) }
 {
@@ -55,7 +53,7 @@ fn room(out: &[u8], used: usize) -> Waiting
             going: true,
         };
     }
-    let going = flush(out, used);
+    let going = flush(rt, out, used);
     Waiting { at: 0, going }
 }
 
@@ -74,6 +72,7 @@ fn stop(t: Lister) -> Progress
 
 // Feeds the listing with the bytes of a chunk from one place up to the next 0A. What there is to print goes behind what waits.
 fn feed_line(
+    rt: &(impl Print + Eprint),
     t: Lister,
     line: &mut [u8],
     serials: &mut [u64],
@@ -85,7 +84,7 @@ fn feed_line(
     requires { (Kept t × (t.lines + 1 < 2 ^ 63) × Remembers t.opened serials.old) × ((2150 ≤ length line.old) × (from < length chunk.now)) × ((used ≤ length out.old) × (128 ≤ length out.old)) }
     ensures { (Kept result.state × (result.state.lines ≤ t.lines + 1) × Remembers result.state.opened serials.new) × (result.used ≤ length out.old) × (from + result.taken ≤ length chunk.now) × (result.going ≡ true → 1 ≤ result.taken) }
 {
-    let waiting = room(out, used);
+    let waiting = room(rt, out, used);
     let at = waiting.at;
     if !waiting.going {
         return stop(t);
@@ -102,6 +101,7 @@ fn feed_line(
 
 // Feeds the listing with a whole chunk.
 fn feed_all(
+    rt: &(impl Print + Eprint),
     t: Lister,
     line: &mut [u8],
     serials: &mut [u64],
@@ -116,7 +116,7 @@ fn feed_all(
     let mut waiting = used;
     let mut from = 0;
     while from < chunk.len() {
-        let next = feed_line(state, line, serials, chunk, from, out, waiting);
+        let next = feed_line(rt, state, line, serials, chunk, from, out, waiting);
         if !next.going {
             return next;
         }
@@ -133,8 +133,15 @@ fn feed_all(
     }
 }
 
-// Reads standard input to its end. A proved loop has to end, so the reads are counted, from 2^46 down: no run uses them up, and as many chunks have fewer than 2^63 lines.
-fn read_all(line: &mut [u8], serials: &mut [u64], buf: &mut [u8], out: &mut [u8]) -> Progress
+// Reads the input to its end. A proved loop has to end, so the reads are counted, from 2^46 down: no run uses them up, and as many chunks have fewer than 2^63 lines.
+fn read_all(
+    rt: &(impl Print + Eprint),
+    input: &mut impl Read,
+    line: &mut [u8],
+    serials: &mut [u64],
+    buf: &mut [u8],
+    out: &mut [u8],
+) -> Progress
     requires { ((2150 ≤ length line.old) × (length serials.old ≡ 4096)) × ((length buf.old ≤ 65536) × (128 ≤ length out.old)) }
     ensures { (Kept result.state × (result.state.lines + 1 < 2 ^ 63) × Remembers result.state.opened serials.new) × (result.used ≤ length out.old) }
 {
@@ -147,12 +154,11 @@ fn read_all(line: &mut [u8], serials: &mut [u64], buf: &mut [u8], out: &mut [u8]
     let mut waiting = 0;
     let mut reads: u64 = 0x400000000000;
     while reads > 0 {
-        let got = libc::read(STDIN_FILENO, buf);
-        if got < 0 {
-            complain(b"reading");
+        let Ok(n) = input.read(buf) else {
+            complain(rt, "reading");
             return stop(state);
-        }
-        if got == 0 {
+        };
+        if n == 0 {
             return Progress {
                 state,
                 used: waiting,
@@ -160,8 +166,7 @@ fn read_all(line: &mut [u8], serials: &mut [u64], buf: &mut [u8], out: &mut [u8]
                 going: true,
             };
         }
-        let n = io::count(got, buf);
-        let next = feed_all(state, line, serials, &buf[..n], out, waiting);
+        let next = feed_all(rt, state, line, serials, &buf[..n], out, waiting);
         if !next.going {
             return next;
         }
@@ -170,34 +175,42 @@ fn read_all(line: &mut [u8], serials: &mut [u64], buf: &mut [u8], out: &mut [u8]
         waiting = next.used;
         reads -= 1;
     }
-    complain(b"counting");
+    complain(rt, "counting");
     stop(state)
 }
 
 // Writes out what waits, the end of the last line and what closes the listing.
-fn close(t: Lister, line: &[u8], serials: &mut [u64], out: &mut [u8], used: usize)
+fn close(
+    rt: &(impl Print + Eprint),
+    t: Lister,
+    line: &[u8],
+    serials: &mut [u64],
+    out: &mut [u8],
+    used: usize,
+)
     requires { (Kept t × (t.lines + 1 < 2 ^ 63) × Remembers t.opened serials.old) × (2150 ≤ length line.now) × ((used ≤ length out.old) × (128 ≤ length out.old)) }
 {
-    if !flush(out, used) {
+    if !flush(rt, out, used) {
         return;
     }
     let last = listing::finish(t, line, serials, out);
     let state = last.state;
-    if !flush(out, last.said) {
+    if !flush(rt, out, last.said) {
         return;
     }
     let said = listing::close(state, out);
-    flush(out, said);
+    flush(rt, out, said);
 }
 
-fn main() {
+fn main(rt: HostRuntime) {
     let mut line = [0u8; 2150];
     let mut serials = [0u64; 4096];
-    let mut buf = io::large_buffer();
-    let mut out = io::large_buffer();
-    let next = read_all(&mut line, &mut serials, &mut buf, &mut out);
+    let mut buf = [0u8; 65536];
+    let mut out = [0u8; 65536];
+    let mut input = rt.stdin();
+    let next = read_all(&rt, &mut input, &mut line, &mut serials, &mut buf, &mut out);
     if next.going {
         let state = next.state;
-        close(state, &line, &mut serials, &mut out, next.used);
+        close(&rt, state, &line, &mut serials, &mut out, next.used);
     }
 }

@@ -1,4 +1,4 @@
--- Request 3 of document 02, and c_interface.md: "A value of 128 bits is two numbers, the high one first": the engine on such values.
+-- Request 3 of document 02, and c-interface.md: "A value of 128 bits is two numbers, the high one first": the engine on such values.
 use Rattle.std.specs.Prelude.{ℕ}
 use Rattle.refusals.specs.declared.Refusal.TheVariants.{Settings}
 use Rattle.cells128.specs.Qarma128.{qarma128}

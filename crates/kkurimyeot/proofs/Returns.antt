@@ -14,8 +14,8 @@ use Rattle.words.specs.Lists.{among}
 use Rattle.refusals.proofs.Answers.{Can, can_give, gives, gives_none}
 use Rattle.kkurimyeot.specs.Calls.{words_given, returning}
 
-pub returns : {n : ℕ} {a : Answer} {o : List ℕ} {x : Answer × List ℕ} → n ≡ returned_of a → (a, o) ≡ x → (n, o) ≡ returning x
-returns {o = o} e f = ap (λ (k : ℕ). (k, o)) e ∙ ap returning f
+pub returns_lem : {n : ℕ} {a : Answer} {o : List ℕ} {x : Answer × List ℕ} → n ≡ returned_of a → (a, o) ≡ x → (n, o) ≡ returning x
+returns_lem {o = o} e f = ap (λ (k : ℕ). (k, o)) e ∙ ap returning f
 
 -- words to lent memory: with room for them, without, and what can be refused
 module _ (ws out : List ℕ) where

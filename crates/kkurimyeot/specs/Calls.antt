@@ -1,4 +1,4 @@
--- c_interface.md, and document 01, "What a refused caller gets": what a C call returns, and what it leaves in the memory it was lent.
+-- c-interface.md, and document 01, "What a refused caller gets": what a C call returns, and what it leaves in the memory it was lent.
 use Rattle.std.specs.Prelude.{◌≡◌, List, [], ◌∷◌, ℕ, length, get_or}
 use Rattle.words.specs.Digits.{laid}
 use Rattle.refusals.specs.Refusals.{returned_of, giving}

@@ -38,7 +38,7 @@ place_of (Line p) = p
 place_of RepeatedSerial = 0
 place_of SerialListFull = 0
 
--- c_interface.md, "The returned number": bits 63..56 the refusal's number or 0; bits 31..0 how many bytes were written, or the place, or 0
+-- c-interface.md, "The returned number": bits 63..56 the refusal's number or 0; bits 31..0 how many bytes were written, or the place, or 0
 abbrev pub returned_of : Answer → ℕ
 returned_of (Wrote n) = n
 returned_of (Refused r) = number_of r * 2 ^ 56 + place_of r

@@ -7,6 +7,7 @@ use cells128::Pair;
 use cipher64::BlockAnswer;
 use cipher128::BlockAnswer as BlockAnswer128;
 use refusals::Answer;
+use std::io;
 
 const P: u64 = 0xfb623599da6e8127;
 
@@ -20,15 +21,10 @@ const K0: u64 = 0xec2802d4e0a488e9;
 const UNCHANGED: usize = 1039;
 
 // A block, or the number of its refusal.
-fn print_block(b: BlockAnswer) {
+fn print_block(rt: &impl Print, b: &BlockAnswer) -> io::Result<()> {
     match b {
-        BlockAnswer::Word(w) => {
-            io::print_hex(1, w, 16);
-        }
-        BlockAnswer::Refused(r) => {
-            io::write_all(1, b"refused ");
-            io::print_decimal(1, refusals::number(r) as u64);
-        }
+        BlockAnswer::Word(w) => print!(rt; "{w:016x}"),
+        BlockAnswer::Refused(r) => print!(rt; "refused {}", refusals::number(*r)),
     }
 }
 
@@ -41,17 +37,13 @@ fn back(number: u64, rounds: u64, b: BlockAnswer) -> BlockAnswer {
 }
 
 // One line: the settings, C, and P deciphered from it.
-fn print_vector(number: u64, rounds: u64) {
-    io::write_all(1, b"box ");
-    io::print_decimal(1, number);
-    io::write_all(1, b" r ");
-    io::print_decimal(1, rounds);
-    io::write_all(1, b" C = ");
+fn print_vector(rt: &impl Print, number: u64, rounds: u64) -> io::Result<()> {
+    print!(rt; "box {number} r {rounds} C = ")?;
     let c = cipher64::encipher(number, rounds, W0, K0, T, P);
-    print_block(c);
-    io::write_all(1, b" P = ");
-    print_block(back(number, rounds, c));
-    io::write_all(1, b"\n");
+    print_block(rt, &c)?;
+    print!(rt; " P = ")?;
+    print_block(rt, &back(number, rounds, c))?;
+    println!(rt)
 }
 
 // A value of 128 bits.
@@ -60,16 +52,10 @@ fn pair(high: u64, low: u64) -> Pair {
 }
 
 // A block of 128 bits, or the number of its refusal.
-fn print_block128(b: BlockAnswer128) {
+fn print_block128(rt: &impl Print, b: &BlockAnswer128) -> io::Result<()> {
     match b {
-        BlockAnswer128::Word(w) => {
-            io::print_hex(1, w.high, 16);
-            io::print_hex(1, w.low, 16);
-        }
-        BlockAnswer128::Refused(r) => {
-            io::write_all(1, b"refused ");
-            io::print_decimal(1, refusals::number(r) as u64);
-        }
+        BlockAnswer128::Word(w) => print!(rt; "{:016x}{:016x}", w.high, w.low),
+        BlockAnswer128::Refused(r) => print!(rt; "refused {}", refusals::number(*r)),
     }
 }
 
@@ -84,12 +70,8 @@ fn back128(number: u64, rounds: u64, b: BlockAnswer128) -> BlockAnswer128 {
 }
 
 // One line for QARMA-128: the settings, C, and P deciphered from it. No vector of the paper: each value is made of two of appendix A.1.
-fn print_example128(number: u64, rounds: u64) {
-    io::write_all(1, b"QARMA-128 box ");
-    io::print_decimal(1, number);
-    io::write_all(1, b" r ");
-    io::print_decimal(1, rounds);
-    io::write_all(1, b" C = ");
+fn print_example128(rt: &impl Print, number: u64, rounds: u64) -> io::Result<()> {
+    print!(rt; "QARMA-128 box {number} r {rounds} C = ")?;
     let c = cipher128::encipher(
         number,
         rounds,
@@ -98,61 +80,57 @@ fn print_example128(number: u64, rounds: u64) {
         pair(T, P),
         pair(P, T),
     );
-    print_block128(c);
-    io::write_all(1, b" P = ");
-    print_block128(back128(number, rounds, c));
-    io::write_all(1, b"\n");
+    print_block128(rt, &c)?;
+    print!(rt; " P = ")?;
+    print_block128(rt, &back128(number, rounds, c))?;
+    println!(rt)
 }
 
 // Where the vectors of appendix A.2 go, for each box and r = 9, 10 and 11, once there is a copy that has their key and tweak.
-fn skip_vectors128() {
-    io::write_all(
-        1,
-        b"QARMA-128 appendix A.2: skipped, our copy has lost its key and tweak\n",
-    );
+fn skip_vectors128(rt: &impl Print) -> io::Result<()> {
+    println!(rt; "QARMA-128 appendix A.2: skipped, our copy has lost its key and tweak")
 }
 
 // What a call answers: what it did and the bytes it wrote, or the number of its refusal.
-fn print_answer(did: &[u8], a: Answer) {
+fn print_answer(rt: &impl Print, did: &str, a: Answer) -> io::Result<()> {
     match a {
-        Answer::Wrote { count } => {
-            io::write_all(1, did);
-            io::print_decimal(1, count as u64);
-        }
-        Answer::Refused(r) => {
-            io::write_all(1, b"refused ");
-            io::print_decimal(1, refusals::number(r) as u64);
-        }
+        Answer::Wrote { count } => print!(rt; "{did} {count}"),
+        Answer::Refused(r) => print!(rt; "refused {}", refusals::number(r)),
     }
 }
 
 // What sealing answers for a serial, a label, a message and an output of so many bytes.
-fn print_sealing(serial: u64, label: usize, message: usize, room: usize) {
+fn print_sealing(
+    rt: &impl Print,
+    serial: u64,
+    label: usize,
+    message: usize,
+    room: usize,
+) -> io::Result<()> {
     let a = [0xA5u8; 33];
     let m = [0x5Au8; 1025];
     let mut out = [0u8; 1040];
     if 33 < label {
-        return;
+        return Ok(());
     }
     if 1025 < message {
-        return;
+        return Ok(());
     }
     if 1040 < room {
-        return;
+        return Ok(());
     }
     print_answer(
-        b"sealed ",
+        rt,
+        "sealed",
         frame::seal(W0, K0, serial, &a[..label], &m[..message], &mut out[..room]),
-    );
-    io::write_all(1, b"\n");
+    )?;
+    println!(rt)
 }
 
 // Fills a message with bytes that differ.
 fn count_up(m: &mut [u8]) {
-    let mut i = 0;
-    while i < m.len() {
+    for i in 0..m.len() {
         m[i] = (i % 251) as u8 ^ 0x5A;
-        i += 1;
     }
 }
 
@@ -175,14 +153,12 @@ fn memory_right(n: usize, m: &[u8], lent: &[u8], out: &[u8]) -> bool {
     if out.len() < n {
         return false;
     }
-    if !check::same(&out[..n], &m[..n]) {
-        return false;
-    }
-    check::same(&out[n..], &lent[n..])
+    &out[..n] == &m[..n] && &out[n..] == &lent[n..]
 }
 
 // What opening answers at a stated length, and whether it leaves in out what it must: lent has what out was lent with.
 fn print_opened(
+    rt: &impl Print,
     serial: u64,
     stated: usize,
     label: &[u8],
@@ -190,18 +166,19 @@ fn print_opened(
     m: &[u8],
     lent: &[u8],
     out: &mut [u8],
-) {
+) -> io::Result<()> {
     let answer = frame::open(W0, K0, serial, stated, label, sealed, out);
-    print_answer(b"opened ", answer);
+    print_answer(rt, "opened", answer)?;
     if memory_right(written(answer), m, lent, out) {
-        io::write_all(1, b", memory right\n");
+        println!(rt; ", memory right")
     } else {
-        io::write_all(1, b", memory wrong\n");
+        println!(rt; ", memory wrong")
     }
 }
 
 // The same for the sealed bytes of a message of so many bytes with serial 1 and a label of 5 bytes: one of them is changed, and so many are handed on.
 fn print_opening(
+    rt: &impl Print,
     message: usize,
     changed: usize,
     serial: u64,
@@ -209,31 +186,32 @@ fn print_opening(
     label: usize,
     size: usize,
     room: usize,
-) {
+) -> io::Result<()> {
     let a = [0xA5u8; 33];
     let mut m = [0u8; 1040];
     let mut sealed = [0u8; 1040];
     let lent = [0xC3u8; 1040];
     let mut out = [0xC3u8; 1040];
     if 33 < label {
-        return;
+        return Ok(());
     }
     if 1024 < message {
-        return;
+        return Ok(());
     }
     if 1040 <= changed {
-        return;
+        return Ok(());
     }
     if 1040 < size {
-        return;
+        return Ok(());
     }
     if 1040 < room {
-        return;
+        return Ok(());
     }
     count_up(&mut m);
     frame::seal(W0, K0, 1, &a[..5], &m[..message], &mut sealed);
     sealed[changed] ^= 1;
     print_opened(
+        rt,
         serial,
         stated,
         &a[..label],
@@ -241,72 +219,72 @@ fn print_opening(
         &m,
         &lent[..room],
         &mut out[..room],
-    );
+    )
 }
 
 // What was sealed opens, at the lengths that end a block and at others.
-fn print_opens() {
-    print_opening(0, UNCHANGED, 1, 0, 5, 8, 0);
-    print_opening(1, UNCHANGED, 1, 1, 5, 16, 1);
-    print_opening(20, UNCHANGED, 1, 20, 5, 32, 1040);
-    print_opening(24, UNCHANGED, 1, 24, 5, 32, 24);
-    print_opening(1024, UNCHANGED, 1, 1024, 5, 1032, 1024);
+fn print_opens(rt: &impl Print) -> io::Result<()> {
+    print_opening(rt, 0, UNCHANGED, 1, 0, 5, 8, 0)?;
+    print_opening(rt, 1, UNCHANGED, 1, 1, 5, 16, 1)?;
+    print_opening(rt, 20, UNCHANGED, 1, 20, 5, 32, 1040)?;
+    print_opening(rt, 24, UNCHANGED, 1, 24, 5, 32, 24)?;
+    print_opening(rt, 1024, UNCHANGED, 1, 1024, 5, 1032, 1024)
 }
 
 // What is refused, and in which order.
-fn print_refusals() {
-    print_opening(20, UNCHANGED, 1, 1025, 5, 32, 1040);
-    print_opening(20, UNCHANGED, 0x100000000000, 1025, 5, 32, 1040);
-    print_opening(20, UNCHANGED, 1, 20, 33, 32, 20);
-    print_opening(20, UNCHANGED, 0x100000000000, 20, 5, 32, 20);
-    print_opening(20, UNCHANGED, 0x100000000000, 20, 5, 31, 20);
-    print_opening(20, UNCHANGED, 1, 20, 5, 31, 20);
-    print_opening(20, UNCHANGED, 1, 20, 5, 33, 20);
-    print_opening(20, UNCHANGED, 1, 20, 5, 31, 19);
-    print_opening(20, UNCHANGED, 1, 20, 5, 32, 19);
-    print_opening(20, 0, 1, 20, 5, 32, 19);
+fn print_refusals(rt: &impl Print) -> io::Result<()> {
+    print_opening(rt, 20, UNCHANGED, 1, 1025, 5, 32, 1040)?;
+    print_opening(rt, 20, UNCHANGED, 0x100000000000, 1025, 5, 32, 1040)?;
+    print_opening(rt, 20, UNCHANGED, 1, 20, 33, 32, 20)?;
+    print_opening(rt, 20, UNCHANGED, 0x100000000000, 20, 5, 32, 20)?;
+    print_opening(rt, 20, UNCHANGED, 0x100000000000, 20, 5, 31, 20)?;
+    print_opening(rt, 20, UNCHANGED, 1, 20, 5, 31, 20)?;
+    print_opening(rt, 20, UNCHANGED, 1, 20, 5, 33, 20)?;
+    print_opening(rt, 20, UNCHANGED, 1, 20, 5, 31, 19)?;
+    print_opening(rt, 20, UNCHANGED, 1, 20, 5, 32, 19)?;
+    print_opening(rt, 20, 0, 1, 20, 5, 32, 19)
 }
 
 // What the tag or the fill disagrees with: a changed byte, another length, another serial, another label. At lengths 19 and 21 the tag agrees, and the fill alone does not.
-fn print_disagreements() {
-    print_opening(20, 0, 1, 20, 5, 32, 20);
-    print_opening(20, 23, 1, 20, 5, 32, 20);
-    print_opening(20, 31, 1, 20, 5, 32, 20);
-    print_opening(20, UNCHANGED, 1, 19, 5, 32, 20);
-    print_opening(20, UNCHANGED, 1, 21, 5, 32, 21);
-    print_opening(20, UNCHANGED, 1, 24, 5, 32, 24);
-    print_opening(24, UNCHANGED, 1, 23, 5, 32, 24);
-    print_opening(20, UNCHANGED, 2, 20, 5, 32, 20);
-    print_opening(20, UNCHANGED, 1, 20, 4, 32, 20);
+fn print_disagreements(rt: &impl Print) -> io::Result<()> {
+    print_opening(rt, 20, 0, 1, 20, 5, 32, 20)?;
+    print_opening(rt, 20, 23, 1, 20, 5, 32, 20)?;
+    print_opening(rt, 20, 31, 1, 20, 5, 32, 20)?;
+    print_opening(rt, 20, UNCHANGED, 1, 19, 5, 32, 20)?;
+    print_opening(rt, 20, UNCHANGED, 1, 21, 5, 32, 21)?;
+    print_opening(rt, 20, UNCHANGED, 1, 24, 5, 32, 24)?;
+    print_opening(rt, 24, UNCHANGED, 1, 23, 5, 32, 24)?;
+    print_opening(rt, 20, UNCHANGED, 2, 20, 5, 32, 20)?;
+    print_opening(rt, 20, UNCHANGED, 1, 20, 4, 32, 20)
 }
 
-fn main() {
+fn main(rt: HostRuntime) -> io::Result<()> {
     for rounds in 5..8 {
         for number in 0..3 {
-            print_vector(number, rounds);
+            print_vector(&rt, number, rounds)?;
         }
     }
     for rounds in 2..10 {
-        print_vector(1, rounds);
+        print_vector(&rt, 1, rounds)?;
     }
-    print_vector(3, 7);
-    skip_vectors128();
+    print_vector(&rt, 3, 7)?;
+    skip_vectors128(&rt)?;
     for rounds in 2..13 {
-        print_example128(1, rounds);
+        print_example128(&rt, 1, rounds)?;
     }
-    print_example128(0, 11);
-    print_example128(2, 11);
-    print_example128(3, 11);
-    print_sealing(1, 0, 0, 8);
-    print_sealing(1, 0, 0, 7);
-    print_sealing(1, 0, 1, 16);
-    print_sealing(1, 0, 1, 15);
-    print_sealing(1, 32, 1024, 1040);
-    print_sealing(1, 32, 1025, 1040);
-    print_sealing(0x100000000000, 32, 1025, 1040);
-    print_sealing(0x100000000000, 32, 1024, 1040);
-    print_sealing(1, 33, 1024, 1040);
-    print_opens();
-    print_refusals();
-    print_disagreements();
+    print_example128(&rt, 0, 11)?;
+    print_example128(&rt, 2, 11)?;
+    print_example128(&rt, 3, 11)?;
+    print_sealing(&rt, 1, 0, 0, 8)?;
+    print_sealing(&rt, 1, 0, 0, 7)?;
+    print_sealing(&rt, 1, 0, 1, 16)?;
+    print_sealing(&rt, 1, 0, 1, 15)?;
+    print_sealing(&rt, 1, 32, 1024, 1040)?;
+    print_sealing(&rt, 1, 32, 1025, 1040)?;
+    print_sealing(&rt, 0x100000000000, 32, 1025, 1040)?;
+    print_sealing(&rt, 0x100000000000, 32, 1024, 1040)?;
+    print_sealing(&rt, 1, 33, 1024, 1040)?;
+    print_opens(&rt)?;
+    print_refusals(&rt)?;
+    print_disagreements(&rt)
 }
