@@ -7,7 +7,7 @@ EMULATOR :=
 WATCHED := build/abuse
 MARKED := build/marked
 TIMED := build/bench
-CHECKER := target/bin/checker
+CHECKER := crates/checker/out/checker
 SECOND := build/second
 export BINUTILS :=
 else
@@ -43,7 +43,7 @@ TRACED := $(filter-out wasm32,$(PROCESSORS))
 # The longest first.
 TESTS = compare checker abuse $(PROCESSORS:%=for-%) unit refused loader $(TRACED:%=traced-%) watched marked variable calls example first install layout
 
-.PHONY: help run example check test tests $(TESTS:%=test-%) times bench scan known archive install board setup clean always
+.PHONY: help run example check test proofs wrong tests $(TESTS:%=test-%) times bench scan known archive install board setup clean always
 .SECONDARY:
 
 # One at a time, but for the tests.
@@ -55,7 +55,8 @@ help: ## print this list
 	@sed -n 's/^\([a-z]*\):.*## /make \1\t/p' Makefile
 
 run: ## prove the programs and run them: the vectors, and the checker on the sample file
-	rt check vectors checker
+	tools/program vectors
+	tools/program checker
 	tools/run vectors
 	tools/run checker < samples/cards.txt
 
@@ -63,27 +64,35 @@ example: setup build/example ## print the worked example of docs/FORMAT.md
 	@$(EMULATOR) build/example
 
 # How long each line took is written to build/times.
-check test tests: SHELL := tests/timed
+check test proofs wrong tests: SHELL := tests/timed
 
 define LOOK
-rt fmt --check
+"$$(dirname "$$(rt doc)")/bin/rattle" fmt --check $$(find crates/*/src crates/*/specs crates/*/proofs -name '*.rt' -o -name '*.antt')
 tests/refused untried
 [ ! -e ../shared/tools/contracts ] || ../shared/tools/contracts | grep -x 'contracts: nothing to look at'
 endef
 
 check: times setup ## before a commit: prove what changed and what stands on it, and run the tests
 	$(LOOK)
-	rt check
+	rt all check
 	@$(MAKE) -s -j2 -O TWO=1 tests
 
-# What comes after `rt ci` prints nothing where all is right, so that rt's last line is the last of all.
-# The tests use what it has proved.
+# tests/gate runs `rt ci`. What comes after that prints nothing where all is right, so that rt's last line is the last
+# of all. What `rt ci` proves it keeps for itself, but for the programs that it built: so `rt all check` proves once more
+# what the archive and the wrong programs stand on.
 test: times setup ## the gate: prove everything from nothing, try every wrong program, and run the tests
 	$(LOOK)
-	rt ci
+	tests/gate
 	@tests/parts
-	@tests/refused
-	@$(MAKE) -s -j2 QUIET=1 TWO=1 tests
+	@$(MAKE) -s QUIET=1 proofs
+	@$(MAKE) -s QUIET=1 wrong
+	@$(MAKE) -s -j2 QUIET=1 TWO=1 PROVED=1 tests
+
+proofs:
+	rt all check
+
+wrong:
+	tests/refused
 
 times: SHELL := /bin/sh
 times:
@@ -114,6 +123,7 @@ test-variable: $(PROCESSORS:%=build/%/libkkurimyeot.a)
 	bench/variable
 
 test-checker: build/checker
+	tools/program checker
 	$(EMULATOR) build/checker try tools/run checker
 
 test-calls: build/calls
@@ -151,7 +161,7 @@ bench: setup build/bench $(TIMED) build/checker $(SECOND) build/used build/cases
 	$(if $(EMULATOR),bench/instructions $(EMULATOR) build/bench)
 	$(TIMED)
 	bench/sizes build/libkkurimyeot.a
-	$(if $(EMULATOR),bench/native $(CHECKER),rt check checker)
+	$(if $(EMULATOR),bench/native $(CHECKER),tools/program checker)
 	bench/listing "$(EMULATOR) build/checker lines" build/used "$(CHECKER)" $(SECOND)
 	bench/processors
 	bench/variable
@@ -163,7 +173,7 @@ archive: known build/$(FOR)/libkkurimyeot.a ## prove the library and write its a
 	@for file in build/"$$FOR"/*kkurimyeot.*; do echo "for $$FOR: $$file"; done
 
 install: known build/$(FOR)/libkkurimyeot.a ## install library and header FOR=NAME under PREFIX, by default /usr/local
-	[ "$$FOR" != x86-64 ] || rt check checker
+	[ "$$FOR" != x86-64 ] || tools/program checker
 	tools/install "$(PREFIX)" "$(DESTDIR)" $(RELEASE) "$$FOR"
 
 board: known build/$(FOR)/libkkurimyeot.a ## run examples/loader.c FOR=NAME, a Cortex-M on an emulated board
@@ -175,12 +185,12 @@ setup: ## install what the tests need and this machine lacks
 	tools/setup
 
 clean: ## remove everything that was built
-	rm -rf build target
+	rm -rf build crates/*/out
 
 # rt knows what has changed. All below is built anew on the archive that it writes, and on its module.
 build/libkkurimyeot.a: always
 	tools/module build/kkurimyeot.ll kkurimyeot
-	cp target/staticlib/libkkurimyeot.a $@
+	cp crates/kkurimyeot/out/libkkurimyeot.a $@
 
 build/%/libkkurimyeot.a: build/libkkurimyeot.a
 	tools/archive $*

@@ -132,9 +132,10 @@
  *   NAME            processor                       needs from outside
  *   x86-64          x86-64, System V calls          memset
  *   aarch64         aarch64, AAPCS64 calls          memset
- *   cortex-m4       Cortex-M4, with or without      __aeabi_memclr4,
- *                   its floating point unit,        __aeabi_memclr8,
- *                   hard and soft float calls       __aeabi_memcpy
+ *   cortex-m4       Cortex-M4, with or without      __aeabi_memclr,
+ *                   its floating point unit,        __aeabi_memclr4,
+ *                   hard and soft float calls       __aeabi_memclr8,
+ *                                                   __aeabi_memcpy
  *   cortex-m0plus   Cortex-M0+ and Cortex-M0        the same, __aeabi_llsl,
  *                                                   __aeabi_llsr
  *   rv32imc         RISC-V, RV32IMC, ilp32 calls    memcpy, memset
