@@ -71,6 +71,6 @@ reporting first second out = of_neither (giving (report (lines_of first) (lines_
 unfoldable pub comparing : List ℕ → List ℕ → List ℕ → Compared × List ℕ
 comparing first second out = unless 1 (checked first) out (unless 2 (checked second) out (reporting first second out))
 
--- c_interface.md: "With 7, the number has the file, the line and the place; with 8 the file and the line whose serial came before; with 11 the file."; "The returned number": bits 55..48 "the file that is refused, 1 or 2, with 7, 8 and 11", bits 47..32 "the line's number, from 1, with 7 and 8"
+-- c-interface.md: "With 7, the number has the file, the line and the place; with 8 the file and the line whose serial came before; with 11 the file."; "The returned number": bits 55..48 "the file that is refused, 1 or 2, with 7, 8 and 11", bits 47..32 "the line's number, from 1, with 7 and 8"
 abbrev pub returned_as : Compared → ℕ
 returned_as c = returned_of c.answer + (c.file * 2 ^ 48 + c.line * 2 ^ 32)
