@@ -5,7 +5,7 @@
 //!                                           instructions to be counted
 //!
 //! Both are built for release: the second program at rustc's opt-level 3, the library as
-//! `rt staticlib` builds it. By both alike, an input is taken from a slice (a word for a block, bytes
+//! `rt lib` builds it. By both alike, an input is taken from a slice (a word for a block, bytes
 //! for a frame) and its answer written into its own place of an output slice, a block's as 8 bytes or 16.
 //! The output is zeros when it is made and is not cleared between passes: each pass writes the same
 //! bytes of it. All memory is warm. An input's index is the tweak of a block and the serial of a frame.
