@@ -12,7 +12,7 @@ use Rattle.refusals.specs.Refusals.{number_of, place_of, returned_of, giving}
 use Rattle.refusals.specs.declared.Answer.{Answer}
 use Rattle.refusals.specs.declared.Answer.TheVariants.{Wrote, Refused}
 use Rattle.refusals.specs.declared.Refusal.{Refusal}
-use Rattle.refusals.specs.declared.Refusal.TheVariants.{Settings, Length, Serial, SealedSize, Room, Disagrees, Line, RepeatedSerial, SerialListFull}
+use Rattle.refusals.specs.declared.Refusal.TheVariants.{Settings, Length, Serial, SealedSize, Room, Disagrees, Line, RepeatedSerial, SerialListFull, TooLarge}
 
 -- the refusal's number, or 0
 abbrev refusal_in : Answer → ℕ
@@ -34,6 +34,7 @@ refusal_shown Disagrees h = (refl, refl)
 refusal_shown (Line p) h = (omega (arith, h), omega (arith, h))
 refusal_shown RepeatedSerial h = (refl, refl)
 refusal_shown SerialListFull h = (refl, refl)
+refusal_shown TooLarge h = (refl, refl)
 
 pub count_shown : (n : ℕ) → n < 2 ^ 32 → (returned_of (Wrote n) / 2 ^ 56 ≡ 0) × (returned_of (Wrote n) % 2 ^ 32 ≡ n)
 count_shown n h = (omega (arith, h), omega (arith, h))

@@ -2,7 +2,7 @@
 use Rattle.std.specs.Prelude.{List, ◌++◌, ℕ, ◌+◌, ◌*◌, ◌^◌, length, drop}
 use Rattle.words.specs.Cases.{if_le}
 use Rattle.refusals.specs.declared.Refusal.{Refusal}
-use Rattle.refusals.specs.declared.Refusal.TheVariants.{Settings, Length, Serial, SealedSize, Room, Disagrees, Line, RepeatedSerial, SerialListFull}
+use Rattle.refusals.specs.declared.Refusal.TheVariants.{Settings, Length, Serial, SealedSize, Room, Disagrees, Line, RepeatedSerial, SerialListFull, TooLarge}
 use Rattle.refusals.specs.declared.Answer.{Answer}
 use Rattle.refusals.specs.declared.Answer.TheVariants.{Wrote, Refused}
 
@@ -25,6 +25,8 @@ number_of (Line p) = 7
 -- Request 1 of document 02: "8 repeated serial, 9 serial list full"
 number_of RepeatedSerial = 8
 number_of SerialListFull = 9
+-- Request 5: "11 file above either limit"
+number_of TooLarge = 11
 
 -- "Extra answer": the place, and 0 for "none"
 abbrev pub place_of : Refusal → ℕ
@@ -37,6 +39,7 @@ place_of Disagrees = 0
 place_of (Line p) = p
 place_of RepeatedSerial = 0
 place_of SerialListFull = 0
+place_of TooLarge = 0
 
 -- c-interface.md, "The returned number": bits 63..56 the refusal's number or 0; bits 31..0 how many bytes were written, or the place, or 0
 abbrev pub returned_of : Answer → ℕ

@@ -16,6 +16,7 @@ pub enum Refusal {
     Line { place: u32 },
     RepeatedSerial,
     SerialListFull,
+    TooLarge,
 }
 
 // What a call answers that writes to lent memory: how many bytes it wrote, or a refusal.
@@ -39,6 +40,7 @@ pub fn number(r: Refusal) -> u8
         Refusal::Line { place: _ } => 7,
         Refusal::RepeatedSerial => 8,
         Refusal::SerialListFull => 9,
+        Refusal::TooLarge => 11,
     }
 }
 
@@ -56,6 +58,7 @@ pub fn place(r: Refusal) -> u32
         Refusal::Line { place } => place,
         Refusal::RepeatedSerial => 0,
         Refusal::SerialListFull => 0,
+        Refusal::TooLarge => 0,
     }
 }
 

@@ -1,0 +1,11 @@
+pub mod Pairs
+pub mod Serials
+pub mod Handles
+pub mod Walks
+pub mod Files
+pub mod Calls
+pub mod Refused
+pub mod Outcomes
+pub mod Demands
+pub mod Differences
+pub mod Sizes

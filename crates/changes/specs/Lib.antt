@@ -1,0 +1,4 @@
+pub mod Report
+pub mod Compare
+pub mod Files
+pub mod Workings

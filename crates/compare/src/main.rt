@@ -1,0 +1,147 @@
+// The comparison of two files: prints what changed between them.
+#![tactic(auto)]
+
+ghost use Rattle.std.specs.Prelude.{◌≤◌, length, IfOk, IfSome};
+
+use refusals::{Answer, Refusal};
+use std::io::Read;
+use std::rt::Files;
+use std::{env, fs, io};
+
+// The system takes no longer name, with the byte behind it.
+const NAME_MAX: usize = 4096;
+
+// Says what there is to say of a file or of the program, on standard error. The exit status does not say it.
+fn say(rt: &impl Eprint, name: &str, what: &str) {
+    let _ = eprintln!(rt; "{name}: {what}");
+}
+
+// Says why the system refused what was asked of it, in the system's words: Display has the error's number behind them.
+fn fail(rt: &(impl Eprint + AllocGlobal), name: &str, error: io::Error) {
+    let Ok(text) = error.to_string(rt.alloc()) else {
+        let _ = eprintln!(rt; "{name}: {error}");
+        return;
+    };
+    match text.split_once(" (os error ") {
+        Some((words, _)) => say(rt, name, words),
+        None => say(rt, name, text.as_str()),
+    }
+}
+
+// Says why a file is refused, or that there is no room for the report, which does not come to pass: `report_small` says that there is.
+fn refuse(rt: &impl Eprint, name: &str, line: u16, r: Refusal) {
+    let _ = match r {
+        Refusal::TooLarge => eprintln!(rt; "{name}: more than 1,024 lines or 65,536 bytes"),
+        Refusal::Line { place } => {
+            eprintln!(rt;
+                "{name}: line {line} is not a frame line: the byte at place {place} (from 0) is wrong or missing"
+            )
+        }
+        Refusal::RepeatedSerial => {
+            eprintln!(rt; "{name}: line {line} has a serial that an earlier line has")
+        }
+        _ => eprintln!(rt; "compare: no room for the report"),
+    };
+}
+
+// Reads a file to its end, or as much of it as there is room for, and answers how many bytes it read.
+fn read_all(file: &mut impl Read, buf: &mut [u8]) -> io::Result<usize>
+    ensures { IfOk result (λ n. n ≤ length buf.new) }
+{
+    let mut done = 0;
+    while done < buf.len() {
+        let n = file.read(&mut buf[done..])?;
+        if n == 0 {
+            return Ok(done);
+        }
+        done += n;
+    }
+    Ok(done)
+}
+
+// Reads the file with this name.
+fn read_file<R: Files>(rt: &R, name: &str, buf: &mut [u8]) -> io::Result<usize>
+    ensures { IfOk result (λ n. n ≤ length buf.new) }
+{
+    let mut file = fs::open(rt, name)?;
+    read_all(&mut file, buf)
+}
+
+// Reads the file that an argument names, or says why it cannot be read.
+fn read_argument<R: Files + Eprint + AllocGlobal>(
+    rt: &R,
+    name: &str,
+    buf: &mut [u8],
+) -> Option<usize>
+    ensures { IfSome result (λ n. n ≤ length buf.new) }
+{
+    if name.len() > NAME_MAX {
+        say(rt, "compare", "File name too long");
+        return None;
+    }
+    match read_file(rt, name, buf) {
+        Ok(n) => Some(n),
+        Err(error) => {
+            fail(rt, name, error);
+            None
+        }
+    }
+}
+
+// Prints the report of two files, or says which is refused and why.
+fn report(
+    rt: &(impl Print + Eprint),
+    first_name: &str,
+    first: &[u8],
+    second_name: &str,
+    second: &[u8],
+) {
+    let mut out = [0u8; 65536];
+    let c = changes::compare(first, second, &mut out);
+    let answer = c.answer;
+    match answer {
+        Answer::Wrote { count } => {
+            if rt.write_all(&out[..count as usize]).is_err() {
+                say(rt, "compare", "writing failed");
+            }
+        }
+        Answer::Refused(r) => {
+            if c.file == 1 {
+                refuse(rt, first_name, c.line, r);
+            } else {
+                refuse(rt, second_name, c.line, r);
+            }
+        }
+    }
+}
+
+// Compares the files with these names.
+fn compare<R: Files + Print + Eprint + AllocGlobal>(rt: &R, first_name: &str, second_name: &str) {
+    // One byte more than a file may have, so that a longer one is refused.
+    let mut first = [0u8; 65537];
+    let mut second = [0u8; 65537];
+    let Some(m) = read_argument(rt, first_name, &mut first) else {
+        return;
+    };
+    let Some(n) = read_argument(rt, second_name, &mut second) else {
+        return;
+    };
+    report(rt, first_name, &first[..m], second_name, &second[..n]);
+}
+
+fn main(rt: HostRuntime) {
+    let mut words = match env::args(&rt) {
+        Ok(words) => words,
+        Err(error) => {
+            fail(&rt, "compare", error);
+            return;
+        }
+    };
+    let _program = words.next();
+    match (words.next(), words.next(), words.next()) {
+        (Some(first), Some(second), None) => compare(&rt, first.as_str(), second.as_str()),
+        _ => {
+            let _ = eprintln!(rt; "usage: compare FIRST SECOND");
+        }
+    }
+}
