@@ -41,7 +41,7 @@ PROCESSORS := $(shell tools/processor)
 TRACED := $(filter-out wasm32,$(PROCESSORS))
 
 # The longest first.
-TESTS = compare checker abuse $(PROCESSORS:%=for-%) unit refused loader $(TRACED:%=traced-%) watched marked variable calls example first install layout
+TESTS = compare checker abuse $(PROCESSORS:%=for-%) unit refused loader $(TRACED:%=traced-%) watched marked variable peers files calls example first install layout
 
 .PHONY: help run example check test proofs wrong tests $(TESTS:%=test-%) times bench scan known archive install board setup clean always
 .SECONDARY:
@@ -54,11 +54,13 @@ endif
 help: ## print this list
 	@sed -n 's/^\([a-z]*\):.*## /make \1\t/p' Makefile
 
-run: ## prove the programs and run them: the vectors, and the checker on the sample file
+run: ## prove the programs and run them: the vectors, the checker on a sample file, and the comparison of two
 	tools/program vectors
 	tools/program checker
+	tools/program compare
 	tools/run vectors
 	tools/run checker < samples/cards.txt
+	tools/run compare samples/before.txt samples/after.txt
 
 example: setup build/example ## print the worked example of docs/FORMAT.md
 	@$(EMULATOR) build/example
@@ -103,6 +105,7 @@ tests: $(TESTS:%=test-%)
 test-unit: build/unit
 	$(EMULATOR) build/unit
 
+# The calls beside the second program's. The program `compare` is tried by test-peers and test-files.
 test-compare: build/compare
 	$(EMULATOR) build/compare
 
@@ -110,7 +113,7 @@ test-abuse: build/abuse
 	$(EMULATOR) build/abuse 1000000
 
 test-watched: $(WATCHED)
-	valgrind -q --error-exitcode=1 $(WATCHED) 1000 exact
+	valgrind -q --error-exitcode=1 $(WATCHED) 1100 exact
 
 # Nothing secret decides a branch or an address.
 test-marked: $(MARKED) build/cases
@@ -126,12 +129,18 @@ test-checker: build/checker
 	tools/program checker
 	$(EMULATOR) build/checker try tools/run checker
 
+# Two files compared: the reports beside those of other programs, and the program on all kinds of files.
+test-peers test-files: test-%: build/checker
+	tools/program compare
+	tests/$* "$(EMULATOR) build/checker" tools/run compare
+
 test-calls: build/calls
 	$(EMULATOR) build/calls
 
 test-example: build/example
 	$(EMULATOR) build/example | tests/shown docs/FORMAT.md
 	tests/shown docs/FORMAT.md listing < samples/cards.listing
+	tests/shown docs/FORMAT.md report < samples/changes.report
 
 test-first: build/first
 	$(EMULATOR) build/first | grep -x 'touch 27.41'
@@ -172,8 +181,8 @@ scan: setup build/checker $(SECOND) build/used ## time the checker with a scan o
 archive: known build/$(FOR)/libkkurimyeot.a ## prove the library and write its archive FOR=NAME, a processor of tools/processors
 	@for file in build/"$$FOR"/*kkurimyeot.*; do echo "for $$FOR: $$file"; done
 
-install: known build/$(FOR)/libkkurimyeot.a ## install library and header FOR=NAME under PREFIX, by default /usr/local
-	[ "$$FOR" != x86-64 ] || tools/program checker
+install: known build/$(FOR)/libkkurimyeot.a ## install library, header and, for x86-64, programs FOR=NAME under PREFIX, by default /usr/local
+	[ "$$FOR" != x86-64 ] || { tools/program checker && tools/program compare; }
 	tools/install "$(PREFIX)" "$(DESTDIR)" $(RELEASE) "$$FOR"
 
 board: known build/$(FOR)/libkkurimyeot.a ## run examples/loader.c FOR=NAME, a Cortex-M on an emulated board

@@ -169,12 +169,47 @@ fn not_an_end(byte: u8) -> u8 {
     }
 }
 
+/// A card of the sample files.
+fn card(serial: u64, lane: &str, profile: &str) -> Vec<u8> {
+    line(vectors::KEY, serial, lane.as_bytes(), profile.as_bytes())
+}
+
+/// The card with another digit.
+fn with_another_digit(mut card: Vec<u8>) -> Vec<u8> {
+    let digit = &mut card[40];
+    *digit = if *digit == b'7' { b'8' } else { b'7' };
+    card
+}
+
+/// The sample files of two meets, for their differences: two cards are in the first alone, two in the
+/// second alone, one has another label and one another digit, and two are the same.
+pub fn before() -> Vec<u8> {
+    [
+        card(1_001, "lane 1", "push 10 hold 40"),
+        card(1_002, "lane 2", "push 8 hold 40 for juniors"),
+        card(1_003, "lane 3", "push 11 hold 40"),
+        card(1_004, "lane 4", "push 9 hold 35"),
+        card(1_008, "lane 8, by the stairs", ""),
+        card(1_010, "lane 5", "push 12 hold 40"),
+    ]
+    .concat()
+}
+
+pub fn after() -> Vec<u8> {
+    [
+        card(1_008, "lane 8, by the stairs", ""),
+        card(1_001, "lane 1", "push 10 hold 40"),
+        card(1_002, "lane 2, by the wall", "push 8 hold 40 for juniors"),
+        with_another_digit(card(1_004, "lane 4", "push 9 hold 35")),
+        card(1_012, "lane 5", "push 12 hold 45"),
+        card(1_011, "lane 3", "push 11 hold 45"),
+    ]
+    .concat()
+}
+
 /// The sample file: cards of eight lanes, as they come back from a volunteer's editor, and behind them
 /// a card of last season, whose serial is used again.
 pub fn cards() -> Vec<u8> {
-    let key = vectors::KEY;
-    let card =
-        |serial, lane: &str, profile: &str| line(key, serial, lane.as_bytes(), profile.as_bytes());
     let last = |line: &[u8]| line.len() - 1;
 
     let mut capital = card(1_003, "lane 3", "push 11 hold 40");
@@ -190,22 +225,18 @@ pub fn cards() -> Vec<u8> {
     let mut returned = card(1_005, "lane 5", "push 12 hold 40");
     returned.insert(last(&returned), b'\r');
 
-    let mut changed = card(1_006, "lane 6", "push 10 hold 40");
-    let digit = &mut changed[40];
-    *digit = if *digit == b'7' { b'8' } else { b'7' };
-
     let mut cut = card(1_007, "lane 7", "push 10 hold 45");
     cut.drain(60..last(&cut));
 
     let name = "lane 8, by the stairs";
     [
-        key_line(key),
+        key_line(vectors::KEY),
         card(1_001, "lane 1", "push 10 hold 40"),
         card(1_002, "lane 2", "push 8 hold 40 for juniors"),
         capital,
         blank,
         returned,
-        changed,
+        with_another_digit(card(1_006, "lane 6", "push 10 hold 40")),
         cut,
         b"\n".to_vec(),
         card(1_008, name, ""),

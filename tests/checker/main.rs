@@ -1,8 +1,12 @@
-//! Tries a checker on whole files, and makes files for it.
+//! Tries a checker on whole files, and makes files for it and for comparing two of them.
 //!
 //!     checker try COMMAND [WORD..]  runs a checker, compares its listings with the second program's
 //!     checker lines KIND COUNT      prints a file of lines, by the kinds that `print_lines` has
-//!     checker cards                 prints the sample file
+//!     checker pair SEED COUNT FIRST SECOND
+//!                                   writes two files of good lines without a key line, one of so many
+//!                                   lines, the other of as many or fewer
+//!     checker sized LINES BYTES     prints such a file of so many lines and bytes
+//!     checker cards|before|after    prints a sample file
 
 mod abuse;
 mod feed;
@@ -13,10 +17,13 @@ use feed::{Checker, Feed, Output, Ran};
 use files::{key_line, Lines};
 use second::line::{DIGITS, END, LONGEST};
 use second::listing::{self, KEY_REFUSED};
+use second::pairs::Pairs;
 use second::qarma::{vectors, Key};
 use std::env;
+use std::fs;
 use std::io::{self, Write};
 use std::process::ExitCode;
+use std::str::FromStr;
 
 /// The files of many lines, and the lines of each: the serials of all that open are remembered.
 const FILES: usize = 10;
@@ -34,6 +41,8 @@ const NO_DIGITS: &[u8] = b"/:`gAFGZ \t\r\0x-+._\x7F\x80\xB0\xFF";
 /// The sample file and its listing, as they are kept.
 const CARDS: &[u8] = include_bytes!("../../samples/cards.txt");
 const CARDS_LISTING: &[u8] = include_bytes!("../../samples/cards.listing");
+const BEFORE: &[u8] = include_bytes!("../../samples/before.txt");
+const AFTER: &[u8] = include_bytes!("../../samples/after.txt");
 
 /// What a checker is meant to leave behind. It is not ended by a signal, and its status is 0.
 #[derive(Clone, Copy)]
@@ -165,6 +174,8 @@ fn examples(tries: &mut Tries) -> io::Result<()> {
         tries.fed("the example", input.as_bytes(), feed, meant)?;
     }
     assert_eq!(CARDS, files::cards(), "samples/cards.txt is an old one");
+    assert_eq!(BEFORE, files::before(), "samples/before.txt is an old one");
+    assert_eq!(AFTER, files::after(), "samples/after.txt is an old one");
     tries.fed("samples/cards.txt", CARDS, Feed::File, CARDS_LISTING)
 }
 
@@ -471,17 +482,34 @@ fn print_lines(kind: &str, count: usize) -> io::Result<()> {
     io::stdout().write_all(&[lines.key_line(), made.concat()].concat())
 }
 
+/// Writes two files to be compared.
+fn write_pair(seed: u64, count: usize, [first, second]: [&str; 2]) -> io::Result<()> {
+    let (first_bytes, second_bytes) = Pairs::new(seed).pair(count);
+    fs::write(first, first_bytes)?;
+    fs::write(second, second_bytes)
+}
+
 fn main() -> io::Result<ExitCode> {
-    let mut words = env::args().skip(1);
-    let mode = words.next().unwrap_or_default();
-    match (mode.as_str(), words.next()) {
-        ("try", Some(command)) => return try_checker(Checker::new(command, words.collect())),
-        ("lines", Some(kind)) => {
-            let count = words.next().unwrap_or_default();
-            print_lines(&kind, count.parse().expect("a number"))?;
+    fn number<T: FromStr>(word: &str) -> T {
+        word.parse().ok().expect("a number")
+    }
+    let words: Vec<String> = env::args().skip(1).collect();
+    let words: Vec<&str> = words.iter().map(String::as_str).collect();
+    let print = |bytes: &[u8]| io::stdout().write_all(bytes);
+    match words[..] {
+        ["try", command, ref more @ ..] => {
+            let more = more.iter().map(|word| word.to_string()).collect();
+            return try_checker(Checker::new(command.to_string(), more));
         }
-        ("cards", None) => io::stdout().write_all(&files::cards())?,
-        _ => panic!("try COMMAND [WORD..], lines KIND COUNT, or cards"),
+        ["lines", kind, count] => print_lines(kind, number(count))?,
+        ["pair", seed, count, first, second] => {
+            write_pair(number(seed), number(count), [first, second])?;
+        }
+        ["sized", lines, bytes] => print(&Pairs::new(9).sized(number(lines), number(bytes)))?,
+        ["cards"] => print(&files::cards())?,
+        ["before"] => print(&files::before())?,
+        ["after"] => print(&files::after())?,
+        _ => panic!("try, lines, pair, sized, cards, before or after; main.rs says more"),
     }
     Ok(ExitCode::SUCCESS)
 }

@@ -5,11 +5,13 @@ use std::mem::ManuallyDrop;
 use std::ptr;
 
 pub mod calls;
+pub mod changes;
 pub mod ffi;
 pub mod frame;
 pub mod harness;
 pub mod line;
 pub mod listing;
+pub mod pairs;
 pub mod qarma;
 pub mod qarma128;
 pub mod rng;
