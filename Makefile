@@ -113,7 +113,7 @@ test-abuse: build/abuse
 	$(EMULATOR) build/abuse 1000000
 
 test-watched: $(WATCHED)
-	valgrind -q --error-exitcode=1 $(WATCHED) 1100 exact
+	valgrind -q --error-exitcode=1 $(WATCHED) 1000 exact
 
 # Nothing secret decides a branch or an address.
 test-marked: $(MARKED) build/cases

@@ -6,17 +6,13 @@
 //!
 //! Both are built for release: the second program at rustc's opt-level 3, the library as
 //! `rt lib` builds it. By both alike, an input is taken from a slice (a word for a block, bytes
-//! for a frame or a file) and its answer written into its own place of an output slice, a block's as 8
-//! bytes or 16. The output is zeros when it is made and is not cleared between passes: each pass writes
-//! the same bytes of it. All memory is warm. An input's index is the tweak of a block and the serial of a
-//! frame; for two card files it is nothing.
+//! for a frame) and its answer written into its own place of an output slice, a block's as 8 bytes or 16.
+//! The output is zeros when it is made and is not cleared between passes: each pass writes the same
+//! bytes of it. All memory is warm. An input's index is the tweak of a block and the serial of a frame.
 
-use second::changes::{self, LINES_MAX, LONGEST_REPORT};
 use second::ffi;
 use second::frame::{self, Refusal};
-use second::line;
 use second::opaque;
-use second::pairs::Pairs;
 use second::qarma::{self, Key, Schedule};
 use second::qarma128;
 use second::rng::Rng;
@@ -193,73 +189,6 @@ const OPEN_WRONG_FILL: Call<[u8; SEALED]> = Call {
     ..OPEN_WRONG_TAG
 };
 
-/// The longest line, and one of a label of 6 bytes and a message of 24.
-const READ_LINE: Call<Vec<u8>> = Call {
-    name: "2149 bytes",
-    answer: 40,
-    library: |_, _, line, place| {
-        let answer = ffi::read_line(line, place);
-        assert!(answer == 40);
-    },
-    second: |_, _, line, place| {
-        let fields = line::read(line).expect("a good line");
-        let words = [
-            fields.serial,
-            fields.label_length as u64,
-            fields.message_length as u64,
-            fields.label_place as u64,
-            fields.sealed_place as u64,
-        ];
-        for (word, place) in words.into_iter().zip(place.chunks_exact_mut(8)) {
-            put(word, place);
-        }
-    },
-    inputs: |_, count| lines(count, (LABEL, MESSAGE)),
-};
-const READ_SHORT_LINE: Call<Vec<u8>> = Call {
-    name: "97 bytes",
-    inputs: |_, count| lines(count, (6, 24)),
-    ..READ_LINE
-};
-
-/// Two card files.
-type Files = (Vec<u8>, Vec<u8>);
-
-const COMPARE: Call<Files> = Call {
-    name: "kk_compare",
-    answer: LONGEST_REPORT,
-    library: |_, _, (first, second), place| {
-        let answer = ffi::compare(first, second, place);
-        assert!(answer <= LONGEST_REPORT as u64);
-    },
-    second: |_, _, (first, second), place| {
-        let answer = changes::compare(first, second, place);
-        assert!(answer.is_ok());
-    },
-    inputs: card_files,
-};
-/// The last line of the second file has the serial of its first: refusal 8, and nothing is written.
-const COMPARE_REPEATED: Call<Files> = Call {
-    name: "refused 8",
-    library: |_, _, (first, second), place| {
-        let answer = ffi::compare(first, second, place);
-        assert!(answer >> 56 == 8);
-    },
-    second: |_, _, (first, second), place| {
-        let answer = changes::compare(first, second, place);
-        assert!(matches!(answer, Err(changes::Refusal::File(..))));
-    },
-    inputs: |given, count| {
-        let repeated = |(first, second): Files| {
-            let mut lines: Vec<&[u8]> = second.split_inclusive(|&byte| byte == line::END).collect();
-            lines[LINES_MAX - 1] = lines[0];
-            (first, lines.concat())
-        };
-        card_files(given, count).into_iter().map(repeated).collect()
-    },
-    ..COMPARE
-};
-
 fn put(answer: u64, place: &mut [u8]) {
     place.copy_from_slice(&answer.to_be_bytes());
 }
@@ -314,37 +243,6 @@ fn filled(given: &Given, count: usize, last_block: u64, tag: u8) -> Vec<[u8; SEA
         .enumerate()
         .map(seal)
         .collect()
-}
-
-/// Lines with labels and messages of these lengths.
-fn lines(count: usize, lengths: (usize, usize)) -> Vec<Vec<u8>> {
-    let mut pairs = Pairs::new(11);
-    (0..count as u64)
-        .map(|serial| pairs.line(serial, lengths))
-        .collect()
-}
-
-/// Pairs of files of 1,024 lines and about 48 KB in random order. Of the lines of the first, a tenth is not
-/// in the second, which has others for them; a tenth has other digits there, and a tenth another length.
-fn card_files(_: &Given, count: usize) -> Vec<Files> {
-    let mut pairs = Pairs::new(10);
-    let mut files = || {
-        let serials = pairs.serials(2 * LINES_MAX);
-        let (mut first, mut second) = (Vec::new(), Vec::new());
-        for (i, &serial) in serials[..LINES_MAX].iter().enumerate() {
-            let line = pairs.line(serial, (5, 0));
-            second.push(match i % 10 {
-                0 => pairs.line(serials[LINES_MAX + i], (5, 0)),
-                1 => pairs.line(serial, (5, 0)),
-                2 => pairs.line(serial, (6, 0)),
-                _ => line.clone(),
-            });
-            first.push(line);
-        }
-        pairs.rng.shuffle(&mut second);
-        (first.concat(), second.concat())
-    };
-    (0..count).map(|_| files()).collect()
 }
 
 impl<I> Call<I> {
@@ -443,18 +341,6 @@ fn times(given: &Given) {
     for call in [OPEN_FILLED, OPEN_WRONG_TAG, OPEN_WRONG_FILL] {
         call.row(given, FRAMES, FRAMES);
     }
-    println!();
-    println!("ns for kk_read_line of a line");
-    println!("                    ------- best ---------  ------ median --------");
-    println!("line          lines   library   second  ratio   library   second  ratio");
-    READ_SHORT_LINE.row(given, BLOCKS, BLOCKS);
-    READ_LINE.row(given, BLOCKS, BLOCKS);
-    println!();
-    println!("ns for two files of {LINES_MAX} lines");
-    println!("                    ------- best ---------  ------ median --------");
-    println!("call          pairs   library   second  ratio   library   second  ratio");
-    COMPARE.row(given, 1, 1);
-    COMPARE_REPEATED.row(given, 1, 1);
 }
 
 fn main() {
@@ -488,7 +374,6 @@ fn main() {
         ["kk128_engine", a, b, c] => ENGINE128.work(&given, [a, b, c]),
         ["kk_seal", a, b, c] => SEAL.work(&given, [a, b, c]),
         ["kk_open", a, b, c] => OPEN.work(&given, [a, b, c]),
-        ["kk_compare", a, b, c] => COMPARE.work(&given, [a, b, c]),
         _ => panic!("none or CALL library|second MADE COUNT"),
     }
 }

@@ -6,9 +6,8 @@
 The depth of the stack is followed along the branches from a function's start, where the return
 address is on it, 8 bytes; what is used below the stack pointer counts, and a call adds what the
 callee takes. Whatever cannot be bounded is an error: a stack pointer that is moved otherwise than
-by a number, paths that meet at different depths, calls through a pointer, recursion but for what is
-known of it below. A function that is called and is not in the archive is named; its stack is not in
-the numbers.
+by a number, paths that meet at different depths, calls through a pointer, recursion. A function
+that is called and is not in the archive is named; its stack is not in the numbers.
 """
 
 import re
@@ -16,9 +15,6 @@ import sys
 from dataclasses import dataclass, field
 
 RETURN_ADDRESS = 8
-
-# Functions that call themselves, and how many of each are under way at most: a file's 1,024 lines are halved ten times.
-RECURSIONS = {"sorting::sort_in": 11}
 
 # Lines of objdump.
 MEMBER = re.compile(r"(\S+):\s+file format (\S+)")
@@ -34,10 +30,6 @@ LOWERS = re.compile(r"subq? \$(-?0x[0-9a-f]+),%rsp")
 BELOW = re.compile(r"-(0x[0-9a-f]+)\(%rsp")
 MOVES_OTHERWISE = re.compile(r"push|pop(?!cnt)|enter|leave|xchg .*%[re]?sp\b|(?!cmp|test).*,%[re]?sp$")
 PADDING = re.compile(r"nop|xchg +%ax,%ax|int3")
-# A long stack is taken page by page, each of them touched: what begins a function then, and the loop.
-PAGES = re.compile(
-    r"mov %rsp,%r11;sub \$(0x[0-9a-f]+),%r11;sub \$0x1000,%rsp;movq \$0x0,\(%rsp\);cmp %r11,%rsp;jne ([0-9a-f]+) .*"
-)
 
 
 def signed(number):
@@ -94,15 +86,6 @@ class Function:
     start: int
     name: str
     code: list[Instruction] = field(default_factory=list)
-
-    def take_pages_at_once(self):
-        """Makes one step of the loop that takes a long stack page by page."""
-        for i in range(len(self.code) - 5):
-            part = self.code[i : i + 6]
-            found = PAGES.fullmatch(";".join(map(str, part)))
-            if found and int(found[2], 16) == part[2].address:
-                part[2].operands = f"${found[1]},%rsp"
-                part[5].name, part[5].operands = "nop", ""
 
     def fail(self, instruction, why):
         place = f"{self.member}: {self.name}+{instruction.address - self.start:#x}"
@@ -201,8 +184,6 @@ class Archive:
                 function.code[-1].offset = int(found[2] or "0", 16) + 4
             elif line.strip(". ") and not line.startswith("In archive"):
                 raise Unbounded(f"cannot read what objdump says: {line!r}")
-        for function in self.places.values():
-            function.take_pages_at_once()
 
     def callee(self, function, instruction):
         """The function that is called; None if it is outside the archive."""
@@ -225,7 +206,6 @@ class Archive:
             depths = function.depths()
             own = max(depth + function.code[i].reaches() for i, depth in depths.items())
             need = Need(own, own, [], set())
-            again = 0  # the depth at which it calls itself
             for i, depth in depths.items():
                 instruction = function.code[i]
                 if function.jumps_out(instruction):
@@ -233,9 +213,6 @@ class Archive:
                 elif instruction.name != "call":
                     continue
                 callee = self.callee(function, instruction)
-                if callee is function and function.name in RECURSIONS:
-                    again = max(again, depth)
-                    continue
                 if callee is None:
                     need.outside.add(instruction.symbol)
                     continue
@@ -244,7 +221,6 @@ class Archive:
                 if depth + below.deepest > need.deepest:
                     need.deepest = depth + below.deepest
                     need.chain = [f"{callee.name} {below.own}", *below.chain]
-            need.deepest += again * (RECURSIONS.get(function.name, 1) - 1)
             self.needs[function.name] = need
         return self.needs[function.name]
 

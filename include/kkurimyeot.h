@@ -1,7 +1,6 @@
 /*
  * kkurimyeot.h - the QARMA-64 block engine for C, frames sealed and opened with
- * it, frame lines read, written and opened, and files of lines compared; and the
- * QARMA-128 block engine.
+ * it, and frame lines read, written and opened; and the QARMA-128 block engine.
  *
  * This header is the manual. Link with libkkurimyeot.a; once both are installed,
  * `pkg-config --cflags --libs kkurimyeot` prints what the compiler has to be told.
@@ -42,11 +41,6 @@
  *   frame     A serial, a label, a message length and sealed bytes.
  *   line      A frame as text: lowercase hexadecimal digits, ended by byte 0x0A.
  *   place     The number of a byte in a line, from 0.
- *   file      Lines, one behind another: at most KK_FILE_LINES_MAX of them and
- *             KK_FILE_MAX bytes. (The key line, which the file checker's input has
- *             first, is no line.)
- *   report    What changed between two files, as text: a line of it for each serial
- *             whose lines are not the same.
  *   refusal   The number that says why a call did nothing.
  *
  * The paper is Roberto Avanzi, "The QARMA Block Cipher Family". It chooses
@@ -90,16 +84,16 @@
  * opened are passed as uint64_t. Each of them may have any value: one outside its
  * limits is refused, whatever its upper bits.
  *
- * A label, a message, sealed bytes, a line or a file are passed as a pointer and the
+ * A label, a message, sealed bytes or a line are passed as a pointer and the
  * number of bytes there, a kk_size: 64 bits on every processor, so that a size_t
  * can be handed in as it is. All these bytes must be the caller's to read, even if
  * they are too many or too few and the call is refused. They are never written.
  *
  * An answer is written to memory that the caller lends: a pointer `out` and the
- * number of bytes there, `out_length`. All `out_length` bytes must be the caller's
- * to write, and none of them may belong to the label, the message, the sealed
- * bytes, the line or the files. An answer made of words has 8 bytes for each word,
- * or 16 in the 128-bit cipher, the most significant first.
+ * number of bytes there, `out_length`. All `out_length` bytes must be the
+ * caller's to write, and none of them may belong to the label, the message, the
+ * sealed bytes or the line. An answer made of words has 8 bytes for each word, or
+ * 16 in the 128-bit cipher, the most significant first.
  *
  * A value of 128 bits is passed as two numbers, the high one first. In an answer
  * kk_word(out) is then its high number, kk_word(out + KK_WORD_BYTES) its low one.
@@ -121,16 +115,12 @@
  * Each function returns one uint64_t:
  *
  *   bits 63..56   the refusal, or 0 if the call succeeded
- *   bits 55..48   0; from kk_compare() the file that is refused, 1 or 2, with
- *                 KK_REFUSED_TOO_LARGE, KK_REFUSED_LINE and
- *                 KK_REFUSED_REPEATED_SERIAL
- *   bits 47..32   0; from kk_compare() the line's number in that file, from 1, with
- *                 KK_REFUSED_LINE and KK_REFUSED_REPEATED_SERIAL
+ *   bits 55..32   0
  *   bits 31..0    the number of bytes written, if the call succeeded; the place,
  *                 with KK_REFUSED_LINE; 0, with any other refusal
  *
- * Take it apart with kk_refusal() and kk_count(), kk_file() and kk_line(). If
- * several refusals apply, the first one in the function's list is given.
+ * Take it apart with kk_refusal() and kk_count(). If several refusals apply, the
+ * first one in the function's list is given.
  *
  *
  * Processors, and what a call takes there
@@ -140,34 +130,25 @@
  * nothing else:
  *
  *   NAME            processor                       needs from outside
- *   x86-64          x86-64, System V calls          memset; memcpy
- *   aarch64         aarch64, AAPCS64 calls          memset; memcpy
+ *   x86-64          x86-64, System V calls          memset
+ *   aarch64         aarch64, AAPCS64 calls          memset
  *   cortex-m4       Cortex-M4, with or without      __aeabi_memclr,
  *                   its floating point unit,        __aeabi_memclr4,
  *                   hard and soft float calls       __aeabi_memclr8,
- *                                                   __aeabi_memcpy;
- *                                                   __aeabi_uldivmod
- *   cortex-m0plus   Cortex-M0+ and Cortex-M0        __aeabi_memclr,
- *                                                   __aeabi_memclr4,
- *                                                   __aeabi_memclr8,
- *                                                   __aeabi_memcpy,
- *                                                   __aeabi_llsl, __aeabi_llsr;
- *                                                   __aeabi_uldivmod,
- *                                                   __aeabi_lmul
+ *                                                   __aeabi_memcpy
+ *   cortex-m0plus   Cortex-M0+ and Cortex-M0        the same, __aeabi_llsl,
+ *                                                   __aeabi_llsr
  *   rv32imc         RISC-V, RV32IMC, ilp32 calls    memcpy, memset
  *   wasm32          WebAssembly with bulk memory    nothing
  *
- * What stands behind a semicolon only kk_compare() needs. Each call has sections of
- * its own: with the linker's --gc-sections a program has those that it calls.
- *
  * The names with __aeabi are those of Arm's run-time ABI. With GCC, __aeabi_mem..
- * come with the C library (newlib, picolibc) and the others with libgcc; compiler-rt
- * has all of them. For firmware without any of these, examples/board/libc has all
- * that is named here.
+ * come with the C library (newlib, picolibc) and the shifts __aeabi_ll.. with
+ * libgcc; compiler-rt has all of them. For firmware without any of these,
+ * examples/board/libc has all that is named here.
  *
- * Stack: less than 4 KiB for any call on any of these but kk_compare(), which takes
- * less than 100 KiB; and what the functions from outside take (docs/PERFORMANCE.md
- * has the bytes for each call). No other memory: the archive has no variables.
+ * Stack: less than 4 KiB for any call on any of these, and what the functions from
+ * outside take (docs/PERFORMANCE.md has the bytes for each call). No other memory:
+ * the archive has no variables.
  *
  * Interrupts: a call may be interrupted anywhere, and an interrupt handler may
  * make calls, if the stack is long enough for both. Calls may run at the same time
@@ -197,11 +178,10 @@
  * opened.
  *
  * Nothing secret decides which instruction is executed next, or which address is
- * read or written, but for one decision of kk_open() and of kk_open_line():
- * whether the frame opened. A wrong fill goes the same way as a wrong tag.
- * kk_read_line() and kk_compare() have no secret: lines and files are public text.
- * Functions from outside get secrets to copy or to shift, never as a length or as
- * a number of places.
+ * read or written, but for one decision of kk_open() and of kk_open_line(): whether
+ * the frame opened. A wrong fill goes the same way as a wrong tag. kk_read_line()
+ * has no secret: a line is public text. Functions from outside get secrets to copy
+ * or to shift, never as a length or as a number of places.
  *
  * That is tested and not proved, by 6,000 calls of all functions with every kind
  * of answer, of the archives as they are built (`make test`): on the machine of the
@@ -211,16 +191,15 @@
  * call with other secrets. For wasm32 it is not tested: whoever runs the module
  * compiles it again.
  *
- * How long an instruction takes is the processor's matter. The archives divide
- * only in kk_compare(), which has no secret, and multiply only there and where the
- * digits of a line are written, which are public, so a multiplication that ends
- * early for small numbers tells nothing. They do shift by secrets: a box of 4 bits
- * is looked up by a shift by a cell. (The boxes of the 128-bit cipher are gates,
- * which shift by fixed numbers only.) A core that shifts place by place (SERV, or
- * PicoRV32 without its barrel shifter) therefore tells something of keys and
- * blocks by its time. Of Cortex-M, aarch64 and x86-64 we know none that does so;
- * newer ones promise it only in a mode that the system sets (PSTATE.DIT, DOITM).
- * docs/PERFORMANCE.md says where such instructions are.
+ * How long an instruction takes is the processor's matter. The archives have no
+ * division. They multiply only where the digits of a line are written, which are
+ * public, so a multiplication that ends early for small numbers tells nothing. They
+ * do shift by secrets: a box of 4 bits is looked up by a shift by a cell. (The boxes
+ * of the 128-bit cipher are gates, which shift by fixed numbers only.) A core that
+ * shifts place by place (SERV, or PicoRV32 without its barrel shifter) therefore tells
+ * something of keys and blocks by its time. Of Cortex-M, aarch64 and x86-64 we know
+ * none that does so; newer ones promise it only in a mode that the system sets
+ * (PSTATE.DIT, DOITM). docs/PERFORMANCE.md says where such instructions are.
  *
  *
  * Not promised
@@ -230,7 +209,7 @@
  * and messages that a call leaves in registers or on the stack are not wiped; a
  * refused kk_open() or kk_open_line() too may leave some there. No call knows which
  * serials were used before: a frame opens as often as it is handed in. The file
- * checker refuses a repeat, within one file; kk_compare() refuses files with one.
+ * checker refuses a repeat, within one file.
  *
  *
  * Examples
@@ -306,13 +285,7 @@ typedef size_t kk_size;
 /* Bytes of the five words that kk_read_line() writes. */
 #define KK_READ_BYTES 40
 
-/* Limits of a file of lines that kk_compare() takes, and the most bytes that its
-   report has: 19 for each line of the first file and 20 for each of the second. */
-#define KK_FILE_LINES_MAX 1024
-#define KK_FILE_MAX 65536
-#define KK_REPORT_MAX 39936
-
-/* The refusals by their numbers. kk_refusal() gives one of 0 to 8, or 11. */
+/* The refusals by their numbers. kk_refusal() gives one of 0 to 7. */
 enum kk_refusals {
     KK_NOT_REFUSED = 0,
     KK_REFUSED_SETTINGS = 1,    /* box or rounds outside the limits */
@@ -324,12 +297,10 @@ enum kk_refusals {
     KK_REFUSED_DISAGREES = 6,   /* tag or fill disagrees */
     KK_REFUSED_LINE = 7,        /* not a good line; kk_count() gives the place */
 
-    KK_REFUSED_REPEATED_SERIAL = 8, /* an earlier line has its serial: kk_compare();
-                                       in the file checker: and has opened */
-    KK_REFUSED_SERIAL_LIST_FULL = 9, /* from the file checker, and no call here: a
-                                       fresh serial after 4,096 others */
-    KK_REFUSED_TOO_LARGE = 11   /* file above KK_FILE_LINES_MAX lines or KK_FILE_MAX
-                                   bytes */
+    /* No call here gives these two. The file checker does: it remembers the serials
+       of the lines that opened in a file. */
+    KK_REFUSED_REPEATED_SERIAL = 8, /* a line before it opened under its serial */
+    KK_REFUSED_SERIAL_LIST_FULL = 9 /* a fresh serial after 4,096 others */
 };
 
 /* The refusal in a returned number: one of enum kk_refusals. */
@@ -342,18 +313,6 @@ static inline unsigned kk_refusal(uint64_t answer)
 static inline uint32_t kk_count(uint64_t answer)
 {
     return (uint32_t)answer;
-}
-
-/* The file that kk_compare() refuses, 1 or 2, and the line's number in it, from 1; 0
-   where the returned number has none. */
-static inline unsigned kk_file(uint64_t answer)
-{
-    return (unsigned)(answer >> 48 & 0xFF);
-}
-
-static inline unsigned kk_line(uint64_t answer)
-{
-    return (unsigned)(answer >> 32 & 0xFFFF);
 }
 
 /* The number that stands in KK_WORD_BYTES bytes, the most significant first: a word,
@@ -616,49 +575,6 @@ uint64_t kk128_decipher(uint64_t box, uint64_t rounds,
                         uint64_t block_high, uint64_t block_low,
                         uint8_t *KK_RESTRICT out, kk_size out_length);
 
-/*
- * What changed between two files of lines, by their serials: a report, in which each
- * serial whose lines are not the same in the two files stands once, and no other. No
- * key is needed, and no tag is looked at.
- *
- * A line of the report is one of
- *
- *   first SERIAL              the serial has a line in the first file only
- *   second SERIAL             in the second only
- *   both SERIAL               in both, of unequal length
- *   both SERIAL PLACE BITS    in both, of equal length: the place of the first byte in
- *                             which they differ, and in how many bits the two lines
- *                             differ, from their first byte to their last
- *
- * with SERIAL as its 12 digits in the lines, PLACE and BITS in decimal, one blank
- * (0x20) between them, and byte 0x0A. The lines of the report stand
- * by rising serial. Files with the same lines, in whatever order, give a report of 0
- * bytes.
- *
- * A file has its lines one behind another. Each piece up to a 0x0A is a line. A last
- * piece without 0x0A is a line too, if it is not empty, but never a good one. A file of
- * 0 bytes is a file of no lines. first and second may be the same memory: both are only
- * read.
- *
- * Refusals, in this order, all of the first file's before any of the second's:
- *   KK_REFUSED_TOO_LARGE       if a file is above KK_FILE_LINES_MAX lines or
- *                              KK_FILE_MAX bytes;
- *   KK_REFUSED_LINE            at the first line that is not good, with its number
- *                              and the place in it;
- *   KK_REFUSED_REPEATED_SERIAL at the first line whose serial an earlier line of the
- *                              file has, with its number;
- * and last of all
- *   KK_REFUSED_ROOM            if out_length is below the bytes of the report.
- *                              KK_REPORT_MAX are always enough.
- * Writes the report to the first bytes of out, as many as the returned number says,
- * perhaps none.
- *
- * It is made for the desk: it takes less than 100 KiB of stack, more than a pad has.
- */
-uint64_t kk_compare(const uint8_t *KK_RESTRICT first, kk_size first_length,
-                    const uint8_t *KK_RESTRICT second, kk_size second_length,
-                    uint8_t *KK_RESTRICT out, kk_size out_length);
-
 #ifdef KK_EXAMPLE
 /* Enciphers a block and deciphers it again. Gives 1 if the block came back. */
 static inline int kk_example(uint64_t w0, uint64_t k0,
@@ -697,27 +613,6 @@ static inline int kk128_example(const uint8_t key[2 * KK128_WORD_BYTES],
                             kk_word(block), kk_word(block + KK_WORD_BYTES),
                             block, KK128_BLOCK_BYTES);
     return kk_refusal(answer) == KK_NOT_REFUSED;
-}
-
-/* Which pads to reload: gives how many serials have not the same lines in the file
-   before and the file after, or -1 if there is no report. It lends the report's memory
-   on, of KK_REPORT_MAX bytes if every report is to have room. */
-static inline long kk_compare_example(const uint8_t *before, size_t before_length,
-                                      const uint8_t *after, size_t after_length,
-                                      uint8_t *report, size_t room)
-{
-    uint64_t answer;
-    uint32_t i;
-    long serials = 0;
-
-    answer = kk_compare(before, before_length, after, after_length, report, room);
-    if (kk_refusal(answer) != KK_NOT_REFUSED) {
-        return -1; /* kk_file(answer) is the file and kk_line(answer) the line, or 0 */
-    }
-    for (i = 0; i < kk_count(answer); i++) {
-        serials += report[i] == 0x0A;
-    }
-    return serials;
 }
 
 /* Seals a reading of up to 24 bytes, with the number of its lane as the label,

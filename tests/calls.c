@@ -977,149 +977,11 @@ static void lines_by_example(void)
     check(next == SERIAL + 1 && untouched_from(0), "a reading too long, nothing changed");
 }
 
-/* Lines of two card files, that nobody sealed: the shortest with a serial and a tag, and one with a label of
-   one byte. */
-#define CARD(serial, tag) "01" serial "000000" tag "\n"
-#define LABELLED(serial, label, tag) "01" serial "010000" label tag "\n"
-#define TAG "0123456789abcdef"
-
-static uint64_t compared(const char *first, const char *second, size_t room)
-{
-    return kk_compare((const uint8_t *)first, strlen(first), (const uint8_t *)second, strlen(second),
-                      lend(), room);
-}
-
-static void compares(void)
-{
-    /* 3 stays; 5 has another first and last digit, 0 and 1 one bit apart (30, 31), f and 0 four (66, 30);
-       a has another length. */
-    static const char first[] = CARD("000000000005", TAG) LABELLED("00000000000a", "77", TAG)
-        CARD("000000000003", TAG) CARD("0fffffffffff", TAG) CARD("000000000002", TAG);
-    static const char second[] = CARD("000000000000", TAG) CARD("000000000003", TAG)
-        CARD("00000000000a", TAG) CARD("000000000005", "1123456789abcde0");
-    static const char report[] = "second 000000000000\nfirst 000000000002\nboth 000000000005 20 5\n"
-                                 "both 00000000000a\nfirst 0fffffffffff\n";
-    static const char exchanged[] = "first 000000000000\nsecond 000000000002\nboth 000000000005 20 5\n"
-                                    "both 00000000000a\nsecond 0fffffffffff\n";
-    const size_t need = strlen(report);
-
-    wrote_text(compared("", "", sizeof out), "", "kk_compare, two empty files");
-    wrote_text(compared(first, first, sizeof out), "", "kk_compare, a file and itself");
-    wrote_text(compared(first, first, 0), "", "kk_compare, a file and itself, no room");
-    wrote_text(compared(first, second, sizeof out), report, "kk_compare");
-    wrote_text(compared(second, first, sizeof out), exchanged, "kk_compare, files exchanged");
-    wrote_text(compared(first, second, need), report, "kk_compare, just enough room");
-    refused(compared(first, second, need - 1), KK_REFUSED_ROOM, "kk_compare, short");
-    refused(compared(first, second, 0), KK_REFUSED_ROOM, "kk_compare, no room");
-    wrote_text(compared(CARD("000000000002", TAG), "", sizeof out), "first 000000000002\n",
-               "kk_compare, one line and none");
-    wrote_text(compared("", CARD("000000000002", TAG), sizeof out), "second 000000000002\n",
-               "kk_compare, none and one line");
-
-    lend();
-    wrote_text(kk_compare(NULL, 0, NULL, 0, NULL, 0), "", "kk_compare, null");
-    refused(kk_compare((const uint8_t *)first, strlen(first), NULL, 0, NULL, 0), KK_REFUSED_ROOM,
-            "kk_compare, null and no room");
-}
-
-static void compares_by_example(void)
-{
-    static const char before[] = CARD("000000000001", TAG) CARD("000000000002", TAG) CARD("000000000004", TAG);
-    static const char after[] = CARD("000000000003", TAG) CARD("000000000002", TAG) CARD("000000000004", "1" TAG "0");
-    const uint8_t *const first = (const uint8_t *)before, *const second = (const uint8_t *)after;
-
-    /* The last of the second file has a digit too many before its tag and one behind. */
-    check(kk_compare_example(first, strlen(before), second, strlen(after), lend(), sizeof out) == -1, "a bad file");
-    check(untouched_from(0), "a bad file by the example");
-    check(kk_compare_example(first, strlen(before), second, 2 * KK_LINE_MIN, lend(), sizeof out) == 3,
-          "two serials gone and one new");
-    check(kk_compare_example(first, strlen(before), first, strlen(before), lend(), 0) == 0, "the same file");
-    check(kk_compare_example(first, strlen(before), second, 0, lend(), 18) == -1, "no room by the example");
-}
-
-/* Equal lengths of other parts: an empty label and a message of 8 bytes, or a label of 8 bytes. */
-static void compares_other_parts(void)
-{
-    static const char message[] = "01000000000009000008" TAG TAG "\n";
-    static const char label[] = "01000000000009080000" TAG TAG "\n";
-
-    /* 0 and 8, bytes 30 and 38, in the places 15 and 19. */
-    wrote_text(compared(message, label, sizeof out), "both 000000000009 15 2\n", "kk_compare, other parts");
-}
-
-static void file_refused(uint64_t answer, uint64_t number, const char *what)
-{
-    check(kk_refusal(answer) == number >> 56, what);
-    check(kk_file(answer) == (number >> 48 & 0xFF), what);
-    check(kk_line(answer) == (number >> 32 & 0xFFFF), what);
-    check(kk_count(answer) == (uint32_t)number, what);
-    check(answer == number, what);
-    check(untouched_from(0), what);
-}
-
-static void compares_not(void)
-{
-    static const char good[] = CARD("000000000001", TAG) CARD("000000000002", TAG);
-    static const char cut[] = CARD("000000000001", TAG) "0100000000000200";
-    static const char capital[] = CARD("000000000001", TAG) CARD("00000000000A", TAG);
-    static const char blank[] = CARD("000000000001", TAG) CARD("000000000002", TAG) "\n";
-    static const char returned[] = CARD("000000000001", TAG "\r");
-    static const char twice[] = CARD("000000000001", TAG) CARD("000000000002", TAG)
-        LABELLED("000000000001", "77", TAG) CARD("000000000002", TAG);
-    static const char twice_and_bad[] = CARD("000000000001", TAG) CARD("000000000001", TAG) "01\n";
-
-    file_refused(compared(cut, "", sizeof out), UINT64_C(0x0701000200000010), "first file cut");
-    file_refused(compared(good, cut, sizeof out), UINT64_C(0x0702000200000010), "second file cut");
-    file_refused(compared(capital, good, 0), UINT64_C(0x070100020000000D), "a capital in the first");
-    file_refused(compared(good, capital, 0), UINT64_C(0x070200020000000D), "a capital in the second");
-    file_refused(compared(blank, good, 0), UINT64_C(0x0701000300000000), "an empty line");
-    file_refused(compared(good, returned, 0), UINT64_C(0x0702000100000024), "byte 0D");
-    file_refused(compared(twice, good, 0), UINT64_C(0x0801000300000000), "a serial twice in the first");
-    file_refused(compared(good, twice, 0), UINT64_C(0x0802000300000000), "a serial twice in the second");
-
-    /* 7 before 8; all of the first file before the second; 5 last. */
-    file_refused(compared(twice_and_bad, good, 0), UINT64_C(0x0701000300000002), "7 before 8");
-    file_refused(compared(good, twice_and_bad, 0), UINT64_C(0x0702000300000002), "7 before 8, second");
-    file_refused(compared(twice, cut, 0), UINT64_C(0x0801000300000000), "8 of the first, 7 of the second");
-    file_refused(compared(cut, twice, 0), UINT64_C(0x0701000200000010), "7 of the first, 8 of the second");
-    refused(compared(good, "", 0), KK_REFUSED_ROOM, "5 last");
-}
-
-static void compares_not_too_large(void)
-{
-    static const uint8_t bytes[KK_FILE_MAX + 1]; /* zeros, and no 0A */
-    static uint8_t ends[KK_FILE_LINES_MAX + 1];
-    static const char twice[] = CARD("000000000001", TAG) CARD("000000000001", TAG);
-    const uint8_t *const other = (const uint8_t *)twice;
-    const size_t length = strlen(twice);
-
-    memset(ends, 0x0A, sizeof ends);
-    lend();
-    file_refused(kk_compare(bytes, KK_FILE_MAX + 1, other, length, out, 0),
-                 UINT64_C(0x0B01000000000000), "a byte too many");
-    file_refused(kk_compare(ends, KK_FILE_LINES_MAX + 1, bytes, 1, out, 0),
-                 UINT64_C(0x0B01000000000000), "a line too many");
-    file_refused(kk_compare(NULL, 0, bytes, KK_FILE_MAX + 1, out, 0),
-                 UINT64_C(0x0B02000000000000), "a byte too many in the second");
-    file_refused(kk_compare(NULL, 0, ends, KK_FILE_LINES_MAX + 1, out, 0),
-                 UINT64_C(0x0B02000000000000), "a line too many in the second");
-    file_refused(kk_compare(other, length, ends, KK_FILE_LINES_MAX + 1, out, 0),
-                 UINT64_C(0x0801000200000000), "8 of the first, 11 of the second");
-    /* Just as many as are allowed, and not good. */
-    file_refused(kk_compare(bytes, KK_FILE_MAX, NULL, 0, out, 0),
-                 UINT64_C(0x0701000100000000), "as many bytes as are allowed");
-    file_refused(kk_compare(NULL, 0, ends, KK_FILE_LINES_MAX, out, 0),
-                 UINT64_C(0x0702000100000000), "as many lines as are allowed");
-    check(KK_REPORT_MAX == KK_FILE_LINES_MAX * strlen("first 000000000001\nsecond 000000000002\n"),
-          "the longest report");
-}
-
-/* The refusals of later requests have their numbers. */
+/* The refusals that the file checker gives and no call does. */
 static void names_refusals(void)
 {
     check(KK_REFUSED_REPEATED_SERIAL == 8, "KK_REFUSED_REPEATED_SERIAL");
     check(KK_REFUSED_SERIAL_LIST_FULL == 9, "KK_REFUSED_SERIAL_LIST_FULL");
-    check(KK_REFUSED_TOO_LARGE == 11, "KK_REFUSED_TOO_LARGE");
 }
 
 int main(void)
@@ -1180,11 +1042,6 @@ int main(void)
     no_lines();
     no_line_anywhere();
     no_line_damaged();
-    compares();
-    compares_by_example();
-    compares_other_parts();
-    compares_not();
-    compares_not_too_large();
     names_refusals();
 
     check(kk_example(W0, K0, TWEAK, PLAIN), "the header's example");

@@ -4,7 +4,7 @@
  *
  * The stack has the bottom of the RAM, so that one that grows too long overwrites no
  * variable: it is a fault, if your board has nothing below its RAM. The library takes less
- * than 4 KiB of it, but for kk_compare(), which is for a desk and takes less than 100 KiB.
+ * than 4 KiB of it.
  */
 ENTRY(reset)
 
@@ -12,7 +12,7 @@ MEMORY
 {
     FLASH (rx) : ORIGIN = 0x00000000, LENGTH = 256K
     STACK (rw) : ORIGIN = 0x20000000, LENGTH = 8K
-    RAM (rw) : ORIGIN = ORIGIN(STACK) + LENGTH(STACK), LENGTH = 8K
+    RAM (rw) : ORIGIN = 0x20002000, LENGTH = 8K
 }
 
 stack_top = ORIGIN(STACK) + LENGTH(STACK);

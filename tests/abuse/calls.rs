@@ -1,17 +1,15 @@
 //! Random calls of each C function, each compared with the second program.
 
 use crate::cases::Cases;
-use crate::damage::{damage_file, damage_line};
+use crate::damage::damage_line;
 use crate::frames::{self, Frame};
 use crate::numbers;
 use second::calls::blocks::{Function, Input, Word};
-use second::calls::changes::comparing;
 use second::calls::frames::{OpenCall, SealCall};
 use second::calls::lines::{opening, reading, writing, READ};
 use second::harness::{Call, Outcome, Part, Tally};
 use second::line::LONGEST;
 use second::opaque;
-use second::pairs::Pairs;
 use second::rng::Rng;
 use std::array;
 use std::mem::MaybeUninit;
@@ -198,24 +196,6 @@ impl Abuse {
         let line = self.part(&line);
         let call = opening(frame.key, &line);
         self.run(&call, frame.message_length as usize, &[&line])
-    }
-
-    /// Two files of a few lines, now and then of some more, either of them good or damaged.
-    pub fn compare(&mut self) -> u64 {
-        let count = if numbers::one_in(&mut self.rng, 100) {
-            self.rng.below(24)
-        } else {
-            self.rng.below(5)
-        };
-        let (first, second) = Pairs::new(self.rng.word()).pair(count);
-        let [first, second] = [first, second].map(|mut file| {
-            if numbers::one_in(&mut self.rng, 3) {
-                damage_file(&mut file, &mut self.rng);
-            }
-            self.part(&file)
-        });
-        let call = comparing(&first, &second);
-        self.run(&call, call.need(), &[&first, &second])
     }
 }
 

@@ -2,16 +2,13 @@
 //! says how they are written.
 
 use second::calls::blocks;
-use second::calls::changes::comparing;
-use second::changes::LINES_MAX;
 use second::harness::{Call, Given, Outcome};
-use second::pairs::Pairs;
 use std::fs;
 use std::io;
 use std::path::Path;
 
 /// The most bytes of a file: the smallest board has 256 KiB for it and the program.
-const FILE: usize = 205_000;
+const FILE: usize = 200_000;
 
 /// The byte behind the last case of a file.
 const END: u8 = 0xFF;
@@ -24,15 +21,12 @@ pub struct Cases {
 }
 
 impl Cases {
-    /// The paper's vectors, and two files of as many lines as can be, which take the deepest stack.
+    /// The paper's vectors.
     pub fn new() -> Self {
         let mut cases = Self::default();
         for (call, meant) in blocks::paper_vectors() {
             cases.add(&call, meant.written.len(), &meant);
         }
-        let (first, second) = full_files();
-        let call = comparing(&first, &second);
-        cases.add(&call, call.need(), &call.meant(call.need()));
         cases
     }
 
@@ -60,20 +54,6 @@ impl Cases {
         println!("abuse: {} cases in {} files", self.count, self.full.len());
         Ok(())
     }
-}
-
-/// Two full files of the shortest lines in random order, of which every hundredth is another in the second.
-fn full_files() -> (Vec<u8>, Vec<u8>) {
-    let mut pairs = Pairs::new(1);
-    let serials = pairs.serials(LINES_MAX);
-    let shortest = |serial| pairs.line(serial, (0, 0));
-    let first: Vec<Vec<u8>> = serials.into_iter().map(shortest).collect();
-    let mut second = first.clone();
-    for line in second.iter_mut().step_by(100) {
-        line[30..35].fill(b'0');
-    }
-    pairs.rng.shuffle(&mut second);
-    (first.concat(), second.concat())
 }
 
 fn case(given: &Given, room: usize, meant: &Outcome) -> Vec<u8> {

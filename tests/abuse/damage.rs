@@ -1,6 +1,5 @@
 //! Damage to bytes that were good.
 
-use second::changes::LINES_MAX;
 use second::line::{DIGITS, END};
 use second::rng::Rng;
 use std::ops::Range;
@@ -18,14 +17,6 @@ pub fn damage_line(line: &mut Vec<u8>, rng: &mut Rng) {
     match DAMAGES.get(way) {
         Some(damage) => damage(line, rng),
         None => LINE_DAMAGES[way - DAMAGES.len()](line, rng),
-    }
-}
-
-/// Damages a file of lines in one of the ways for a line, or one of those for a file.
-pub fn damage_file(file: &mut Vec<u8>, rng: &mut Rng) {
-    match rng.below(3) {
-        0 => damage_line(file, rng),
-        _ => rng.one_of(&FILE_DAMAGES)(file, rng),
     }
 }
 
@@ -146,24 +137,4 @@ const LINE_DAMAGES: [Damage; 12] = [
     // The same line again, and an empty one.
     |line, _| line.extend_from_within(..),
     |line, _| line.push(END),
-];
-
-const FILE_DAMAGES: [Damage; 3] = [
-    // A line of it once more, behind the last: a repeated serial.
-    |file, rng| {
-        let lines: Vec<&[u8]> = file.split_inclusive(|&byte| byte == END).collect();
-        if let Some(line) = lines.get(rng.below(lines.len() + 1)) {
-            let line = line.to_vec();
-            file.extend(line);
-        }
-    },
-    // Empty lines behind the last: as many as a file can have, or one or two more.
-    |file, rng| {
-        let lines = file.iter().filter(|byte| **byte == END).count();
-        file.resize(file.len() + LINES_MAX - lines + rng.below(3), END);
-    },
-    // A last line unended.
-    |file, _| {
-        file.pop();
-    },
 ];

@@ -27,7 +27,7 @@ const SEED: u64 = 0x6B6B_7572_696D_7965;
 /// which gives what was returned.
 type Abused = (&'static str, &'static [u8], fn(&mut Abuse) -> u64);
 
-const FUNCTIONS: [Abused; 16] = [
+const FUNCTIONS: [Abused; 15] = [
     ("kk_schedule", &[5], |a| a.block::<u64>(Schedule)),
     ("kk_turn", &[5], |a| a.block::<u64>(Turn)),
     ("kk_engine", &[1, 5], |a| a.block::<u64>(Engine)),
@@ -43,7 +43,6 @@ const FUNCTIONS: [Abused; 16] = [
     ("kk128_engine", &[1, 5], |a| a.block::<u128>(Engine)),
     ("kk128_encipher", &[1, 5], |a| a.block::<u128>(Encipher)),
     ("kk128_decipher", &[1, 5], |a| a.block::<u128>(Decipher)),
-    ("kk_compare", &[11, 7, 8, 5], Abuse::compare),
 ];
 
 /// How often each refusal came, and at 0 how many calls were taken.

@@ -43,8 +43,7 @@
     CALL(kk128_engine, "ppssssssssssss", "", 0, n[0], n[1], TWO(2), TWO(4), TWO(6), TWO(8),       \
          TWO(10), TWO(12))                                                                          \
     CALL(kk128_encipher, "ppssssssss", "", 0, n[0], n[1], TWO(2), TWO(4), TWO(6), TWO(8))         \
-    CALL(kk128_decipher, "ppssssssss", "", 0, n[0], n[1], TWO(2), TWO(4), TWO(6), TWO(8))         \
-    CALL(kk_compare, "", "pp", 0, SLICE(0), SLICE(1))
+    CALL(kk128_decipher, "ppssssssss", "", 0, n[0], n[1], TWO(2), TWO(4), TWO(6), TWO(8))
 
 #define NUMBERS_MAX 14
 #define SLICES_MAX 2

@@ -24,9 +24,9 @@ static uint32_t deepest[CALL_COUNT];
 #define LENT_MAX (KK_LINE_MAX + 64)
 static uint8_t memory[GUARD + 8 + LENT_MAX + GUARD];
 
-/* So much stack a call takes at most, by the header, and so much more is painted. */
-#define STACK_MAX(call) ((call) == CALL_kk_compare ? 102400u : 4096u)
-#define PAINTED_MORE 2048
+/* So much of the stack is painted, and so much a call takes at most, by the header. */
+#define PAINTED 6144
+#define STACK_MAX 4096
 
 static unsigned number_of_case;
 
@@ -81,14 +81,13 @@ static inline __attribute__((always_inline)) uint8_t *stack_pointer(void)
 static __attribute__((noinline)) uint64_t call_painted(const struct one *one, uint8_t *out, uint8_t paint)
 {
     volatile uint8_t *const top = stack_pointer(), *at;
-    const size_t painted = STACK_MAX(one->call) + PAINTED_MORE;
     uint64_t answer;
 
-    for (at = top - painted; at < top; at++) {
+    for (at = top - PAINTED; at < top; at++) {
         *at = paint;
     }
     answer = made(one, out);
-    for (at = top - painted; at < top && *at == paint; at++) {
+    for (at = top - PAINTED; at < top && *at == paint; at++) {
     }
     if ((uint32_t)(top - at) > deepest[one->call]) {
         deepest[one->call] = (uint32_t)(top - at);
@@ -139,7 +138,7 @@ int main(void)
     }
     for (i = 0; i < CALL_COUNT; i++) {
         printf("stack %s %u\n", calls[i].name, (unsigned)deepest[i]);
-        if (deepest[i] >= STACK_MAX(i)) {
+        if (deepest[i] >= STACK_MAX) {
             fail("a call took more stack than the header says");
         }
     }

@@ -5,7 +5,7 @@ use crate::frames::{
     self, Memory, BAD_LABELS, BAD_MESSAGES, LONG, LONGEST_LABEL, LONGEST_MESSAGE, SHORT,
 };
 use second::calls::frames::{refused, SealCall};
-use second::calls::lines::{opening, reading, writing, wrote_fields, Text, READ};
+use second::calls::lines::{opening, reading, writing, wrote_fields, Line, READ};
 use second::frame::{self, Refusal, SERIAL_MAX};
 use second::harness::{self, Outcome, Part, Tally};
 use second::line::{self, Fields, DIGITS, END, LONGEST};
@@ -60,7 +60,7 @@ fn opens(tally: &mut Tally, frame: &SealCall, line: &[u8], spare: usize) {
 /// The line is good, and its tag or fill disagrees.
 fn disagrees(tally: &mut Tally, key: Key, line: &[u8], message: usize) {
     let (answer, _) = harness::answer(&reading(line), READ);
-    tally.same("a good line", &Text(line), answer, READ as u64);
+    tally.same("a good line", &Line(line), answer, READ as u64);
     tally.expect(&opening(key, line), message + 9, &refused(Refusal::Tag));
 }
 

@@ -1,7 +1,6 @@
 //! Compares the library, through its C functions, with the second program.
 
 mod blocks;
-mod changes;
 mod frames;
 mod lines;
 mod opening;
@@ -16,6 +15,5 @@ fn main() -> ExitCode {
     sealing::compare(&mut tally);
     opening::compare(&mut tally);
     lines::compare(&mut tally);
-    changes::compare(&mut tally);
     tally.finish()
 }

@@ -152,14 +152,6 @@ mod c {
             out: *mut u8,
             out_length: usize,
         ) -> u64;
-        pub fn kk_compare(
-            first: *const u8,
-            first_length: usize,
-            second: *const u8,
-            second_length: usize,
-            out: *mut u8,
-            out_length: usize,
-        ) -> u64;
     }
 }
 
@@ -373,11 +365,4 @@ pub fn decipher128(
             place, room,
         )
     }
-}
-
-pub fn compare(first: &[u8], second: &[u8], out: &mut [u8]) -> u64 {
-    let (first, first_length) = (first.as_ptr(), first.len());
-    let (second, second_length) = (second.as_ptr(), second.len());
-    let (place, room) = (out.as_mut_ptr(), out.len());
-    unsafe { c::kk_compare(first, first_length, second, second_length, place, room) }
 }

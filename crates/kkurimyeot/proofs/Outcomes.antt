@@ -57,6 +57,3 @@ write_line_decided κs a x y v w p q = ((λ i. ((p ∙ sym q) i).0), λ i. (tt, 
 
 pub open_line_decided : Decided proofs.kk_open_line.Kinds.ps proofs.kk_open_line.Kinds.r proofs.kk_open_line.Reads.Post
 open_line_decided κs a x y v w p q = ((λ i. ((p ∙ sym q) i).0), λ i. (tt, (tt, (tt, (((p ∙ sym q) i).1, tt)))))
-
-pub compare_decided : Decided proofs.kk_compare.Kinds.ps proofs.kk_compare.Kinds.r proofs.kk_compare.Reads.Post
-compare_decided κs a x y v w p q = ((λ i. ((p ∙ sym q) i).0), λ i. (tt, (tt, (((p ∙ sym q) i).1, tt))))

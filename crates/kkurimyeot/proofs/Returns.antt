@@ -12,15 +12,10 @@ use Rattle.refusals.specs.declared.Answer.TheVariants.{Wrote, Refused}
 use Rattle.refusals.specs.declared.Refusal.TheVariants.{Room}
 use Rattle.words.specs.Lists.{among}
 use Rattle.refusals.proofs.Answers.{Can, can_give, gives, gives_none}
-use Rattle.changes.specs.Compare.{returned_as}
-use Rattle.changes.specs.declared.Compared.{Compared}
-use Rattle.kkurimyeot.specs.Calls.{words_given, returning, returning_compared}
+use Rattle.kkurimyeot.specs.Calls.{words_given, returning}
 
 pub returns_lem : {n : ℕ} {a : Answer} {o : List ℕ} {x : Answer × List ℕ} → n ≡ returned_of a → (a, o) ≡ x → (n, o) ≡ returning x
 returns_lem {o = o} e f = ap (λ (k : ℕ). (k, o)) e ∙ ap returning f
-
-pub compared : {n : ℕ} {a : Compared} {o : List ℕ} {x : Compared × List ℕ} → n ≡ returned_as a → (a, o) ≡ x → (n, o) ≡ returning_compared x
-compared {o = o} e f = ap (λ (k : ℕ). (k, o)) e ∙ ap returning_compared f
 
 -- words to lent memory: with room for them, without, and what can be refused
 module _ (ws out : List ℕ) where

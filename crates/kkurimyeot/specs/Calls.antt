@@ -7,8 +7,6 @@ use Rattle.refusals.specs.declared.Answer.TheVariants.{Refused}
 use Rattle.line.specs.Line.{Reads, refused_at}
 use Rattle.line.specs.declared.Reading.{Reading}
 use Rattle.line.specs.declared.Reading.TheVariants.{Fields, NotLine}
-use Rattle.changes.specs.Compare.{returned_as}
-use Rattle.changes.specs.declared.Compared.{Compared}
 use Rattle.cipher64.specs.declared.Words.{Words}
 use Rattle.cipher64.specs.declared.BlockAnswer.{BlockAnswer}
 use Rattle.cipher64.specs.declared.BlockAnswer.TheVariants.{Word, Refused as RefusedBlock}
@@ -59,7 +57,3 @@ pub record GivesReading (s out : List ℕ) (x : ℕ × List ℕ) : Type 0 where
   pub answer : Reading
   pub reads : Reads s answer
   pub gives : x ≡ returning (reading_given answer out)
-
--- the same for a comparison, with file and line
-abbrev pub returning_compared : Compared × List ℕ → ℕ × List ℕ
-returning_compared a = (returned_as a.0, a.1)

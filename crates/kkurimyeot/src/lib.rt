@@ -6,8 +6,7 @@ ghost use Rattle.cipher64.specs.Words.{key_words, turned_words, engine_call, enc
 ghost use Rattle.cipher128.specs.Words.{key_words as keyWords128, turned_words as turnedWords128, engine_call as engineCall128, encipher_call as encipherCall128, decipher_call as decipherCall128};
 ghost use Rattle.frame.specs.Frames.{sealing, opening};
 ghost use Rattle.line.specs.Calls.{writing, opening_line};
-ghost use Rattle.changes.specs.Compare.{comparing};
-ghost use Rattle.kkurimyeot.specs.Calls.{words_given, block_given, four_words, pair, four, block_given128, four_words128, returning, reading_given, GivesReading, returning_compared};
+ghost use Rattle.kkurimyeot.specs.Calls.{words_given, block_given, four_words, pair, four, block_given128, four_words128, returning, reading_given, GivesReading};
 
 use cells128::Pair;
 use cipher64::{BlockAnswer, Words};
@@ -372,12 +371,4 @@ pub extern "C" fn kk_open_line(w0: u64, k0: u64, line: &[u8], out: &mut [u8]) ->
     ensures { (result, out.new) ≡ returning (opening_line w0 k0 line.now out.old) }
 {
     refusals::returned(line::open(w0, k0, line, out))
-}
-
-// What changed between two files of lines, by rising serial.
-#[unsafe(no_mangle)]
-pub extern "C" fn kk_compare(first: &[u8], second: &[u8], out: &mut [u8]) -> u64
-    ensures { (result, out.new) ≡ returning_compared (comparing first.now second.now out.old) }
-{
-    changes::returned(changes::compare(first, second, out))
 }

@@ -1,8 +1,8 @@
 /*
- * What a compiler for Arm calls for copying and clearing memory, for dividing 64 bits, and,
- * on a Cortex-M0, for shifts and products of 64 bits and for division: the names of Arm's
- * run-time ABI. C libraries for Arm have the first, libgcc has the others, and compiler-rt
- * all of them, so this too is left out by whoever has these.
+ * What a compiler for Arm calls for copying and clearing memory, and, on a Cortex-M0, for
+ * shifts of 64 bits and for division: the names of Arm's run-time ABI. C libraries for Arm
+ * have the first, libgcc has the others, and compiler-rt all of them, so this too is left
+ * out by whoever has these.
  */
 
 #include <stdint.h>
@@ -19,9 +19,6 @@ uint64_t __aeabi_llsl(uint64_t number, int places);
 uint64_t __aeabi_llsr(uint64_t number, int places);
 unsigned __aeabi_uidiv(unsigned number, unsigned by);
 uint64_t __aeabi_uidivmod(unsigned number, unsigned by);
-uint64_t __aeabi_lmul(uint64_t number, uint64_t by);
-uint64_t __udivmoddi4(uint64_t number, uint64_t by, uint64_t *rest);
-void __aeabi_uldivmod(void);
 
 void __aeabi_memcpy(void *restrict to, const void *restrict from, size_t count)
 {
@@ -105,49 +102,4 @@ uint64_t __aeabi_uidivmod(unsigned number, unsigned by)
 unsigned __aeabi_uidiv(unsigned number, unsigned by)
 {
     return (unsigned)__aeabi_uidivmod(number, by);
-}
-
-uint64_t __aeabi_lmul(uint64_t number, uint64_t by)
-{
-    uint64_t product = 0;
-
-    for (; by != 0; by >>= 1, number <<= 1) {
-        if (by & 1) {
-            product += number;
-        }
-    }
-    return product;
-}
-
-/* By its name in libgcc and compiler-rt. */
-uint64_t __udivmoddi4(uint64_t number, uint64_t by, uint64_t *rest)
-{
-    uint64_t quotient = 0, left = 0;
-    int i;
-
-    for (i = 0; i < 64; i++) {
-        left = left << 1 | number >> 63;
-        number <<= 1;
-        quotient <<= 1;
-        if (left >= by) {
-            left -= by;
-            quotient |= 1;
-        }
-    }
-    *rest = left;
-    return quotient;
-}
-
-/* Quotient and remainder go back in r0, r1 and r2, r3, which C cannot say. */
-__attribute__((naked)) void __aeabi_uldivmod(void)
-{
-    __asm__("push {r6, lr}\n\t"
-            "sub sp, #16\n\t"
-            "add r6, sp, #8\n\t"
-            "str r6, [sp]\n\t"
-            "bl __udivmoddi4\n\t"
-            "ldr r2, [sp, #8]\n\t"
-            "ldr r3, [sp, #12]\n\t"
-            "add sp, #16\n\t"
-            "pop {r6, pc}");
 }

@@ -11,14 +11,14 @@ use std::fmt;
 /// The bytes of what reading answers: five words.
 pub const READ: usize = 40;
 
-/// So many bytes of a text are shown.
+/// So many bytes of a line are shown.
 const SHOWN: usize = 160;
 
-/// Bytes that are handed in as a line or as a file of lines, shown as text.
+/// Bytes that are handed in as a line, shown as text.
 #[derive(Clone, Copy)]
-pub struct Text<'a>(pub &'a [u8]);
+pub struct Line<'a>(pub &'a [u8]);
 
-impl fmt::Debug for Text<'_> {
+impl fmt::Debug for Line<'_> {
     fn fmt(&self, f: &mut fmt::Formatter) -> fmt::Result {
         let length = self.0.len();
         let shown = self.0[..length.min(SHOWN)].escape_ascii();
@@ -29,7 +29,7 @@ impl fmt::Debug for Text<'_> {
 
 #[derive(Clone, Copy, Debug)]
 pub struct ReadCall<'a> {
-    pub line: Text<'a>,
+    pub line: Line<'a>,
 }
 
 impl Call for ReadCall<'_> {
@@ -117,7 +117,7 @@ impl Call for WriteCall<'_> {
 #[derive(Clone, Copy, Debug)]
 pub struct OpenLineCall<'a> {
     pub key: Key,
-    pub line: Text<'a>,
+    pub line: Line<'a>,
 }
 
 impl Call for OpenLineCall<'_> {
@@ -144,7 +144,7 @@ impl Call for OpenLineCall<'_> {
 }
 
 pub fn reading(line: &[u8]) -> ReadCall<'_> {
-    ReadCall { line: Text(line) }
+    ReadCall { line: Line(line) }
 }
 
 pub fn writing(frame: SealCall<'_>) -> WriteCall<'_> {
@@ -152,6 +152,6 @@ pub fn writing(frame: SealCall<'_>) -> WriteCall<'_> {
 }
 
 pub fn opening(key: Key, line: &[u8]) -> OpenLineCall<'_> {
-    let line = Text(line);
+    let line = Line(line);
     OpenLineCall { key, line }
 }
