@@ -1,5 +1,7 @@
 -- Document 01, "Boxes": the three boxes of 4 bits. QARMA-64 has them as they are, QARMA-128 wires two of each into one of 8 bits. Document 000 has them in 3.3.
 use Rattle.std.specs.Prelude.{List, [], ◌∷◌, ℕ}
+use Rattle.cells.specs.declared.Sbox.{Sbox}
+use Rattle.cells.specs.declared.Sbox.TheVariants.{Sigma0, Sigma1, Sigma2}
 
 -- "Boxes, for inputs 0 to 15"
 abbrev pub box0 : List ℕ
@@ -20,3 +22,9 @@ unbox2 = 5 ∷ 14 ∷ 13 ∷ 8 ∷ 10 ∷ 11 ∷ 1 ∷ 9 ∷ 2 ∷ 6 ∷ 15 ∷ 
 
 abbrev pub unboxes : List (List ℕ)
 unboxes = box0 ∷ box1 ∷ unbox2 ∷ []
+
+-- "box number 0, 1 or 2"
+abbrev pub sbox_number : Sbox → ℕ
+sbox_number Sigma0 = 0
+sbox_number Sigma1 = 1
+sbox_number Sigma2 = 2

@@ -18,13 +18,13 @@ through gates x = let y = rewired x in let g = gates y (y / 16) (y / 4) (y / 64)
 abbrev pub unthrough : (ℕ → ℕ → ℕ → ℕ → List ℕ) → ℕ → ℕ
 unthrough gates x = let g = gates x (x / 4) (x / 16) (x / 64) in rewired (joined_pairs (g ! 0) (g ! 2) (g ! 1) (g ! 3))
 
--- the same from the calls that the code makes, in their order
-module _ (gates : ℕ → ℕ → ℕ → ℕ → List ℕ) (x : ℕ) {g : List ℕ} {y r : ℕ} where
-  pub passed : y ≡ rewired x → g ≡ gates y (y / 16) (y / 4) (y / 64) → r ≡ joined_pairs (g ! 0) (g ! 1) (g ! 2) (g ! 3) → r ≡ through gates x
-  passed e f h = h ∙ ap (λ (l : List ℕ). joined_pairs (l ! 0) (l ! 1) (l ! 2) (l ! 3)) (f ∙ ap (λ (v : ℕ). gates v (v / 16) (v / 4) (v / 64)) e)
+-- the same from what the code calls gates with, and the number that complements
+module _ (gates : ℕ → ℕ → ℕ → ℕ → List ℕ) (k x : ℕ) {g : List ℕ} {r : ℕ} where
+  pub passed : g ≡ gates (rewired x) (rewired x / 16) (rewired x / 4) (rewired x / 64) → r ≡ joined_pairs (g ! 0) (g ! 1) (g ! 2) (g ! 3) ⊕ k → r ≡ through gates x ⊕ k
+  passed e f = f ∙ ap (λ (l : List ℕ). joined_pairs (l ! 0) (l ! 1) (l ! 2) (l ! 3) ⊕ k) e
 
-  pub unpassed : g ≡ gates x (x / 4) (x / 16) (x / 64) → y ≡ joined_pairs (g ! 0) (g ! 2) (g ! 1) (g ! 3) → r ≡ rewired y → r ≡ unthrough gates x
-  unpassed e f h = h ∙ ap rewired (f ∙ ap (λ (l : List ℕ). joined_pairs (l ! 0) (l ! 2) (l ! 1) (l ! 3)) e)
+  pub unpassed : g ≡ gates x (x / 4) (x / 16) (x / 64) → r ≡ rewired (joined_pairs (g ! 0) (g ! 2) (g ! 1) (g ! 3)) ⊕ k → r ≡ unthrough gates x ⊕ k
+  unpassed e f = f ∙ ap (λ (l : List ℕ). rewired (joined_pairs (l ! 0) (l ! 2) (l ! 1) (l ! 3)) ⊕ k) e
 
 -- what a function has at each cell, a table of it has
 tabled : (f g : ℕ → ℕ) → T (every 256 (λ v. eqb (f v) (g v))) → (x : ℕ) → x < 256 → f x ≡ upto 256 g ! x

@@ -1,11 +1,13 @@
 -- What contracts of private functions say: the boxes as gates on pairs of bits, one of each half of a cell, and the tweak step by masks. Not from the paper.
-use Rattle.std.specs.Prelude.{Bool, ◌&&◌, ◌||◌, List, [], ◌∷◌, ℕ, ◌+◌, ◌*◌, ◌/◌, ◌%◌, ◌<◌, T, eqb}
+use Rattle.std.specs.Prelude.{Bool, true, false, ◌&&◌, ◌||◌, List, [], ◌∷◌, ℕ, ◌*◌, ◌/◌, ◌%◌, ◌<◌, T, eqb}
 use Rattle.std.specs.Int.Bits.{bit_and, bit_or}
 use Rattle.words.specs.Digits.{◌⊕◌}
 use Rattle.words.specs.Lists.{◌!◌}
 use Rattle.cells.specs.Cells.{cell, sixteen}
 use Rattle.cells.specs.Workings.{bit_moved}
 use Rattle.cells.specs.declared.Cells.{Cells}
+use Rattle.cells.specs.declared.Way.{Way}
+use Rattle.cells.specs.declared.Way.TheVariants.{Kept, Stepped, Back}
 
 -- bits 1 and 4 have changed places, and bits 3 and 6
 abbrev pub rewired : ℕ → ℕ
@@ -101,9 +103,9 @@ Masks s u = T (masked s u)
 pub record AllMasks (s u : List ℕ) : Type 0 where
   pub all : (i : ℕ) → i < 16 → Masks (s ! i) (u ! i)
 
--- and which of them: 0, 1 or 2
-abbrev pub way : ℕ → ℕ → ℕ
-way s u = s % 2 + u % 2 * 2
+-- and which of them
+abbrev pub way : ℕ → ℕ → Way
+way s u = elim (eqb s 255) [ true ↦ Stepped | false ↦ elim (eqb u 255) [ true ↦ Back | false ↦ Kept ] ]
 
 unfoldable pub moved_cells : List ℕ → List ℕ → Cells → Cells
 moved_cells s u a = sixteen (λ i. bit_moved 8 2 (way (s ! i) (u ! i)) (cell a i))

@@ -1,19 +1,34 @@
 // What QARMA-128 does to sixteen cells of 8 bits: boxes, mix and tweak step; and a word of 128 bits as cells.
 #![tactic(auto)]
 
-ghost use Rattle.std.specs.Prelude.{◌≡◌, [], ◌∷◌, ◌<◌};
+ghost use Rattle.std.specs.Prelude.{◌≡◌, List, [], ◌∷◌, ℕ, ◌/◌, ◌<◌};
+ghost use Rattle.words.specs.Digits.{◌⊕◌};
 ghost use Rattle.words.specs.Lists.{◌!◌};
-ghost use Rattle.cells.specs.Cells.{Below, cell, cut, joined, looked, rotated, row_sum, mixed_column, mixed, bit_stepped, bit_unstepped, stepped, unstepped};
+ghost use Rattle.cells.specs.Cells.{Below, cell, cut, joined, looked, entry, mixed, bit_stepped, bit_unstepped, stepped, unstepped};
+ghost use Rattle.cells.proofs.Upto.{each2_lt};
+ghost use lib.Dec.{lit<};
 ghost use Rattle.cells.specs.Workings.{bit_moved};
-ghost use Rattle.cells.specs.Boxes.{box0, box1, box2, unbox2};
+ghost use Rattle.cells.specs.Boxes.{box0, box1, box2, unbox2, sbox_number};
 ghost use Rattle.cells128.specs.Qarma128.{qarma128, wired, unwired, entries};
 ghost use Rattle.cells128.specs.Halves.{whole, halves};
 ghost use Rattle.cells128.specs.Workings.{rewired, joined_pairs, gates0, gates1, gates2, ungates2, Masks, AllMasks, way, moved_cells};
 
-use cells::Cells;
+use cells::{Cells, Matrix, Sbox};
 
-// The mix: row x of the entries (x, j), by which cell j is rotated left; 0 stands for "-", which adds nothing.
-const ENTRIES: [[u8; 4]; 4] = [[0, 1, 4, 5], [5, 0, 1, 4], [4, 5, 0, 1], [1, 4, 5, 0]];
+// The matrix of the mix.
+struct Matrix128;
+
+impl Matrix for Matrix128 {
+    ghost BITS = { 8 };
+
+    const BITS: u8 = 8;
+
+    ghost ENTRIES = { entries };
+
+    const ENTRIES: [[u8; 4]; 4] = [[0, 1, 4, 5], [5, 0, 1, 4], [4, 5, 0, 1], [1, 4, 5, 0]];
+
+    ghost within = { record { bits = lit< tt; all = each2_lt 4 4 8 (entry entries) tt } };
+}
 
 // A word of 128 bits: two numbers, the high one first.
 #[derive(Clone, Copy)]
@@ -143,55 +158,77 @@ fn ungates_2(a: u8, b: u8, c: u8, d: u8) -> [u8; 4]
     [o, s, p, q]
 }
 
+// A box on a cell, by its gates. The last number complements the bits that the gates leave so.
+fn boxed_by<F: Fn(u8, u8, u8, u8) -> [u8; 4]>(gates: F, complement: u8, x: u8) -> u8
+    requires { F.IsAlwaysCallable gates }
+    ensures { (g : List ℕ) × F.post gates (rewired x) (rewired x / 16) (rewired x / 4) (rewired x / 64) g × (result ≡ joined_pairs (g ! 0) (g ! 1) (g ! 2) (g ! 3) ⊕ complement) }
+{
+    let y = rewire(x);
+    let g = gates(y, y >> 4, y >> 2, y >> 6);
+    join(g[0], g[1], g[2], g[3]) ^ complement
+}
+
+// The inverse of a box on a cell, likewise.
+fn unboxed_by<F: Fn(u8, u8, u8, u8) -> [u8; 4]>(gates: F, complement: u8, x: u8) -> u8
+    requires { F.IsAlwaysCallable gates }
+    ensures { (g : List ℕ) × F.post gates x (x / 4) (x / 16) (x / 64) g × (result ≡ rewired (joined_pairs (g ! 0) (g ! 2) (g ! 1) (g ! 3)) ⊕ complement) }
+{
+    let g = gates(x, x >> 2, x >> 4, x >> 6);
+    rewire(join(g[0], g[2], g[1], g[3])) ^ complement
+}
+
 // Box 0 on a cell.
 fn box_0(x: u8) -> u8
     ensures { result ≡ wired box0 ! x }
 {
-    let y = rewire(x);
-    let g = gates_0(y, y >> 4, y >> 2, y >> 6);
-    join(g[0], g[1], g[2], g[3])
+    boxed_by(gates_0, 0, x)
 }
 
 // The inverse of box 0 on a cell.
 fn unbox_0(x: u8) -> u8
     ensures { result ≡ unwired box0 ! x }
 {
-    let g = gates_0(x, x >> 2, x >> 4, x >> 6);
-    rewire(join(g[0], g[2], g[1], g[3]))
+    unboxed_by(gates_0, 0, x)
 }
 
-// Box 1 on a cell. The last number complements the bits that its gates leave so.
+// Box 1 on a cell.
 fn box_1(x: u8) -> u8
     ensures { result ≡ wired box1 ! x }
 {
-    let y = rewire(x);
-    let g = gates_1(y, y >> 4, y >> 2, y >> 6);
-    join(g[0], g[1], g[2], g[3]) ^ 0xCC
+    boxed_by(gates_1, 0xCC, x)
 }
 
-// The inverse of box 1 on a cell, with the same complements.
+// The inverse of box 1 on a cell.
 fn unbox_1(x: u8) -> u8
     ensures { result ≡ unwired box1 ! x }
 {
-    let g = gates_1(x, x >> 2, x >> 4, x >> 6);
-    rewire(join(g[0], g[2], g[1], g[3])) ^ 0xAA
+    unboxed_by(gates_1, 0xAA, x)
 }
 
-// Box 2 on a cell. The last number complements the bits that its gates leave so.
+// Box 2 on a cell.
 fn box_2(x: u8) -> u8
     ensures { result ≡ wired box2 ! x }
 {
-    let y = rewire(x);
-    let g = gates_2(y, y >> 4, y >> 2, y >> 6);
-    join(g[0], g[1], g[2], g[3]) ^ 0xCF
+    boxed_by(gates_2, 0xCF, x)
 }
 
-// The inverse of box 2 on a cell, with its own complements.
+// The inverse of box 2 on a cell.
 fn unbox_2(x: u8) -> u8
     ensures { result ≡ unwired unbox2 ! x }
 {
-    let g = ungates_2(x, x >> 2, x >> 4, x >> 6);
-    rewire(join(g[0], g[2], g[1], g[3])) ^ 0x55
+    unboxed_by(ungates_2, 0x55, x)
+}
+
+// The number of a box. The loops over the cells choose by it, and not by the box: then the compiler takes the choice out of them, and a
+// block takes half the instructions.
+fn number_of(sbox: Sbox) -> u64
+    ensures { (result ≡ sbox_number sbox) × (result < 3) }
+{
+    match sbox {
+        Sbox::Sigma0 => 0,
+        Sbox::Sigma1 => 1,
+        Sbox::Sigma2 => 2,
+    }
 }
 
 // The output of a box for one cell.
@@ -218,11 +255,12 @@ fn unbox_cell(number: u64, x: u8) -> u8
     }
 }
 
-// The box on each cell.
-pub fn boxed(a: Cells, number: u64) -> Cells
-    requires { number < 3 }
-    ensures { result ≡ looked (qarma128.box number) a }
+// The box on each cell. A loop of its own, as in `unboxed`: one for both, over a closure, could promise only what the closure may answer for
+// each cell, which is no plainer.
+pub fn boxed(a: Cells, sbox: Sbox) -> Cells
+    ensures { result ≡ looked (qarma128.box (sbox_number sbox)) a }
 {
+    let number = number_of(sbox);
     let mut out = [0u8; 16];
     for i in 0..16 {
         out[i] = box_cell(number, a.at[i]);
@@ -231,10 +269,10 @@ pub fn boxed(a: Cells, number: u64) -> Cells
 }
 
 // The inverse box on each cell.
-pub fn unboxed(a: Cells, number: u64) -> Cells
-    requires { number < 3 }
-    ensures { result ≡ looked (qarma128.unbox number) a }
+pub fn unboxed(a: Cells, sbox: Sbox) -> Cells
+    ensures { result ≡ looked (qarma128.unbox (sbox_number sbox)) a }
 {
+    let number = number_of(sbox);
     let mut out = [0u8; 16];
     for i in 0..16 {
         out[i] = unbox_cell(number, a.at[i]);
@@ -242,63 +280,14 @@ pub fn unboxed(a: Cells, number: u64) -> Cells
     Cells { at: out }
 }
 
-// Four cells, by their numbers.
-fn take(a: Cells, i: usize, j: usize, k: usize, l: usize) -> [u8; 4]
-    requires { ((i < 16) × (j < 16)) × ((k < 16) × (l < 16)) }
-    ensures { result ≡ cell a i ∷ cell a j ∷ cell a k ∷ cell a l ∷ [] }
-{
-    let at = a.at;
-    [at[i], at[j], at[k], at[l]]
-}
-
-// A cell rotated left by k within its 8 bits, and 0 for "-".
-fn rotate(k: u8, x: u8) -> u8
-    requires { k < 8 }
-    ensures { result ≡ rotated 8 k x }
-{
-    if k == 0 {
-        return 0;
-    }
-    (x << k) ^ (x >> (8 - k))
-}
-
-// Row x of the entries over one column.
-fn mix_cell(x: usize, column: [u8; 4]) -> u8
-    requires { x < 4 }
-    ensures { result ≡ row_sum 8 entries (λ j. column ! j) x }
-{
-    let mut sum = 0;
-    for j in 0..4 {
-        sum ^= rotate(ENTRIES[x][j], column[j]);
-    }
-    sum
-}
-
-// The mix of one column.
-fn mix_column(column: [u8; 4]) -> [u8; 4]
-    ensures { result ≡ mixed_column 8 entries column }
-{
-    let mut out = [0u8; 4];
-    for x in 0..4 {
-        out[x] = mix_cell(x, column);
-    }
-    out
-}
-
 // The mix, column by column. It is its own inverse.
 pub fn mix(a: Cells) -> Cells
     ensures { result ≡ mixed qarma128 a }
 {
-    cells::of_rows([
-        mix_column(take(a, 0, 4, 8, 12)),
-        mix_column(take(a, 1, 5, 9, 13)),
-        mix_column(take(a, 2, 6, 10, 14)),
-        mix_column(take(a, 3, 7, 11, 15)),
-    ])
-    .transpose()
+    a.mix::<Matrix128>()
 }
 
-// The bits (b7 b6 .. b0) of a cell become (b0+b2, b7, .., b1).
+// The bits (b7 b6 .. b0) of a cell become (b0+b2, b7, .., b1). `cells64` says why it is not one function for both widths.
 fn bit_step(x: u8) -> u8
     ensures { result ≡ bit_stepped 8 2 x }
 {
@@ -312,6 +301,7 @@ fn bit_unstep(x: u8) -> u8
     x % 128 * 2 + (x / 128 ^ x / 2) % 2
 }
 
+// By masks and not by `Way`: with a `match` for each cell a tweak step takes 219 instructions on x86-64, and not 46.
 // A cell with its bits stepped where `stepped` is 255, stepped back where `unstepped` is 255, and kept where both are 0.
 fn move_bits(stepped: u8, unstepped: u8, x: u8) -> u8
     requires { Masks stepped unstepped }

@@ -1,5 +1,5 @@
 -- Request 5's sentences about the report: "Every difference once, and none that isn't there", "by rising serial"; equal files give an empty report; exchanging the files exchanges `first` and `second`.
-use Prim.Native.Nat.{ℕ, zero, suc, ◌+◌, ◌-◌, ◌*◌, ◌/◌, ◌^◌, ◌≤◌, ◌<◌}
+use Prim.Native.Nat.{ℕ, zero, suc, ◌+◌, ◌-◌, ◌/◌, ◌^◌, ◌≤◌, ◌<◌}
 use mathlib.Core.Bool.{Bool, cond}
 use mathlib.Core.Logic.{◌⊎◌, inl, inr}
 use mathlib.Core.Path.{◌≡◌, refl, sym, ap, ap₂, subst, ◌∙◌}
@@ -20,12 +20,10 @@ use Rattle.texts.specs.Texts.{decimal}
 use lib.Seq.{take_at, drop_at}
 use Rattle.line.specs.Line.{Frame, LineOf, line_of, hex_digits, Reads, fields, refused}
 use Rattle.line.specs.Reader.{serial_of, reading}
-use Rattle.line.specs.declared.Reading.{Reading}
+use Rattle.line.specs.Line.{Reading}
 use Rattle.line.proofs.Hex.{length_hex_digits}
 use Rattle.line.proofs.Places.{reading_reads}
-use Rattle.changes.specs.Compare.{line_as, read_all}
-use Rattle.changes.specs.declared.Checked.{Checked}
-use Rattle.changes.specs.declared.Checked.TheVariants.{Good}
+use Rattle.changes.specs.Compare.{Checked, Good, line_as, read_all}
 use Rattle.changes.proofs.Handles.{fields_serial}
 use Rattle.changes.proofs.Files.{under_here, under_other}
 use Rattle.changes.proofs.Walks.{rising_same, rising_none, rising_at}
@@ -172,7 +170,7 @@ good_digits n l x e = go (reading l) (reading_reads l) e
   where
     go : (r : Reading) → Reads l r → line_as n r x ≡ Good → (serial_digits l ≡ hex_digits 12 (serial_of l)) × (x ≡ Good)
     go r (fields f k) q =
-        let s = fields_serial l r f.serial (length f.label) f.message_length 20 (20 + 2 * length f.label) (fields f k) refl in
+        let s = fields_serial l r _ (fields f k) refl in
         (line_digits l f k ∙ ap (hex_digits 12) s.0, q)
     go r (refused j p) q = let z : ◌≡◌ {A = ℕ} 0 1 = cc in absurd (omega arith)
 

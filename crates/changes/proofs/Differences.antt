@@ -1,5 +1,5 @@
 -- "Every difference once, and none that isn't there": of which serials the report of two good files speaks, in which order, and what it says of each.
-use Prim.Native.Nat.{ℕ, zero, suc, ◌+◌, ◌*◌, ◌^◌, ◌≤◌, ◌<◌}
+use Prim.Native.Nat.{ℕ, zero, suc, ◌+◌, ◌^◌, ◌≤◌, ◌<◌}
 use mathlib.Core.Bool.{true, false, false≢true}
 use mathlib.Core.Logic.{◌⊎◌, inl, inr}
 use mathlib.Core.Path.{◌≡◌, refl, sym, ap, ap₂, subst, ◌∙◌}
@@ -10,7 +10,7 @@ use lib.ListN.{length}
 use Rattle.words.specs.Lists.{among}
 use Rattle.words.proofs.Cases.{by_eq, by_lt}
 use Rattle.serials.specs.Serials.{Rising, none, more}
-use Rattle.line.specs.Line.{hex_digits, GoodLine, fields_of, fields}
+use Rattle.line.specs.Line.{hex_digits, GoodLine, fields}
 use Rattle.line.specs.Reader.{serial_of}
 use Rattle.texts.specs.Lines.{lines_of}
 use Rattle.changes.specs.Report.{first_text, second_text, both_text, saying, serial_digits, numbers, change, under, rising, report}
@@ -185,7 +185,7 @@ same_silent_of (different x y n) e = let z : x ≡ y = cc in absurd (n z)
 -- no good line has a serial that is none
 line_serial : (l : List ℕ) → GoodLine l → serial_of l < 2 ^ 44
 line_serial l (f, k) =
-    let s = fields_serial l (fields_of f) f.serial (length f.label) f.message_length 20 (20 + 2 * length f.label) (fields f k) refl in
+    let s = fields_serial l _ _ (fields f k) refl in
     omega (arith, s.0, s.1)
 
 under_high : (t : ℕ) {ls : List (List ℕ)} → 2 ^ 44 ≤ t → AllGood ls → under t ls ≡ []

@@ -6,17 +6,16 @@ use native.Mathlib.Omega.{arith}
 use lib.ListN.{length, drop, drop_of_length-le}
 use borrow.Author.Tests.{eq-eqb, ne_eqb}
 use Rattle.words.proofs.Cases.{by_lt, by_eq, le_case, gt_case}
+use Rattle.std.specs.Prelude.{Ok, Err}
 use Rattle.refusals.specs.declared.Refusal.TheVariants.{TooLarge}
 use Rattle.line.specs.Line.{Reads, fields, refused}
 use Rattle.line.specs.Reader.{serial_of, reading}
-use Rattle.line.specs.declared.Reading.{Reading}
+use Rattle.line.specs.Line.{Reading}
 use Rattle.line.proofs.Places.{reading_reads}
 use Rattle.line.proofs.Demands.{line_sizes}
 use Rattle.texts.specs.Lines.{lines_of, line_length}
 use Rattle.changes.specs.Report.{change, under, rising, report}
-use Rattle.changes.specs.Compare.{line_as, read_all, repeat_in, repeat_as, and_then, checked_lines, checked}
-use Rattle.changes.specs.declared.Checked.{Checked}
-use Rattle.changes.specs.declared.Checked.TheVariants.{Good, Bad}
+use Rattle.changes.specs.Compare.{Checked, Good, Bad, line_as, read_all, repeat_in, repeat_as, and_then, checked_lines, checked}
 use Rattle.changes.specs.Workings.{serial_in, start_in, handles_from, line_at, line_in, HandleIn, Each, none, more, matching, told, reported, Walkable, handles_of, GoodHandles}
 use Rattle.sorting.specs.Sorting.{insert, into, sorted}
 use Rattle.sorting.proofs.Sorting.{insert_le, insert_gt, length_sorted}
@@ -61,7 +60,7 @@ line_good n l x e = go (reading l) (reading_reads l) e
   where
     go : (r : Reading) → Reads l r → line_as n r x ≡ Good → LineGood l x
     go r (fields f k) q =
-        let s = fields_serial l r f.serial (length f.label) f.message_length 20 (20 + 2 * length f.label) (fields f k) refl in
+        let s = fields_serial l r _ (fields f k) refl in
         record { rest = q; size = (line_sizes l (f, k)).0; serial = omega (arith, s.0, s.1) }
     go r (refused j p) q = let z : ◌≡◌ {A = ℕ} 0 1 = cc in absurd (omega arith)
 
@@ -137,8 +136,8 @@ pub record FileRead (s : List ℕ) : Type 0 where
   pub once : repeat_in [] 0 (map serial_of (lines_of s)) ≡ 0
 
 and_good : (x y : Checked) → and_then x y ≡ Good → (x ≡ Good) × (y ≡ Good)
-and_good Good y e = (refl, e)
-and_good (Bad n r) y e = let z : ◌≡◌ {A = ℕ} 0 1 = cc in absurd (omega arith)
+and_good (Ok u) y e = (refl, e)
+and_good (Err f) y e = let z : ◌≡◌ {A = ℕ} 0 1 = cc in absurd (omega arith)
 
 repeat_good : (n : ℕ) → repeat_as n ≡ Good → n ≡ 0
 repeat_good zero e = refl

@@ -9,24 +9,20 @@ use native.Mathlib.Omega.{arith}
 use lib.ListN.{length}
 use Rattle.words.specs.Lists.{among}
 use Rattle.words.proofs.Cases.{by_lt, yes_or_no}
-use Rattle.refusals.specs.declared.Answer.{Answer}
-use Rattle.refusals.specs.declared.Answer.TheVariants.{Wrote, Refused}
+use Rattle.refusals.specs.Refusals.{Answer, number_of, place_of, giving}
+use Rattle.std.specs.Prelude.{Ok, Err}
 use Rattle.refusals.specs.declared.Refusal.{Refusal}
 use Rattle.refusals.specs.declared.Refusal.TheVariants.{Line}
-use Rattle.refusals.specs.Refusals.{number_of, place_of, giving}
 use Rattle.refusals.proofs.Answers.{Can, can_refused, can_give, gives, gives_none}
-use Rattle.line.specs.Line.{GoodLine, Place, fields_of, Reads, fields, refused}
+use Rattle.line.specs.Line.{GoodLine, Place, Reading, not_line, fields_of, Reads, fields, refused}
 use Rattle.line.specs.Reader.{serial_of, reading}
-use Rattle.line.specs.declared.Reading.{Reading}
-use Rattle.line.specs.declared.Reading.TheVariants.{NotLine}
 use Rattle.line.proofs.Places.{reading_reads, reads_reading}
 use Rattle.texts.specs.Lines.{lines_of}
 use Rattle.changes.specs.Report.{report}
-use Rattle.changes.specs.Compare.{line_as, read_all, repeat_in, repeat_as, and_then, checked, unless, of_neither, reporting, comparing, returned_as}
+use Rattle.changes.specs.Compare.{Checked, Good, Bad, line_as, read_all, repeat_in, repeat_as, and_then, checked, unless, of_neither, reporting, comparing, returned_as}
 use Rattle.changes.specs.Files.{AllGood, none, more, Once, once_none, once_more, Within, GoodFile, Refuses, long, many, line, serial, Judged, good, bad}
-use Rattle.changes.specs.declared.Checked.{Checked}
-use Rattle.changes.specs.declared.Checked.TheVariants.{Good, Bad}
 use Rattle.changes.specs.declared.Compared.{Compared}
+use Rattle.changes.specs.declared.Fault.{Fault}
 use Rattle.changes.proofs.Serials.{repeat_here, repeat_later}
 use Rattle.changes.proofs.Calls.{repeat_some}
 use Rattle.changes.proofs.Files.{large_bytes, large_lines, within_limits}
@@ -38,11 +34,11 @@ answered x = (x.0.answer, x.1)
 -- ---- whose refusal it is: "first file before second", "last of all 5"
 
 module _ (first second out : List ℕ) where
-  pub first_refused : (n : ℕ) (r : Refusal) → checked first ≡ Bad n r → comparing first second out ≡ (record { answer = Refused r; file = 1; line = n }, out)
+  pub first_refused : (n : ℕ) (r : Refusal) → checked first ≡ Bad n r → comparing first second out ≡ (record { answer = Err r; file = 1; line = n }, out)
   unfolding comparing
   first_refused n r e = ap (λ (c : Checked). unless 1 c out (unless 2 (checked second) out (reporting first second out))) e
 
-  pub second_refused : (n : ℕ) (r : Refusal) → checked first ≡ Good → checked second ≡ Bad n r → comparing first second out ≡ (record { answer = Refused r; file = 2; line = n }, out)
+  pub second_refused : (n : ℕ) (r : Refusal) → checked first ≡ Good → checked second ≡ Bad n r → comparing first second out ≡ (record { answer = Err r; file = 2; line = n }, out)
   unfolding comparing
   second_refused n r g e =
       ap (λ (c : Checked). unless 1 c out (unless 2 (checked second) out (reporting first second out))) g
@@ -61,7 +57,7 @@ line_reads : (n : ℕ) (l : List ℕ) (x : Checked) → GoodLine l → line_as n
 line_reads n l x (f, k) = ap (λ (r : Reading). line_as n r x) (sym (reads_reading l (fields_of f) (fields f k)))
 
 line_refuses : (n : ℕ) (l : List ℕ) (x : Checked) (k : ℕ) → Place l k → line_as n (reading l) x ≡ Bad (n + 1) (Line k)
-line_refuses n l x k p = ap (λ (r : Reading). line_as n r x) (sym (reads_reading l (NotLine k) (refused k p)))
+line_refuses n l x k p = ap (λ (r : Reading). line_as n r x) (sym (reads_reading l (not_line k) (refused k p)))
 
 lines_upto : (n : ℕ) {before : List (List ℕ)} (rest : List (List ℕ)) → AllGood before → read_all n (before ++ rest) ≡ read_all (n + length before) rest
 unfolding read_all
@@ -116,8 +112,9 @@ bad_line n (l ∷ ls) m r e = go (bad_line (n + 1) ls m r) (reading l) (reading_
           is = b.is;
         }
     go h x (refused k p) q =
-        let a : n + 1 ≡ m = cc in
-        let c : Line k ≡ r = cc in
+        let b : ◌≡◌ {A = Fault} (record { line = n + 1; refusal = Line k }) (record { line = m; refusal = r }) = cc in
+        let a : n + 1 ≡ m = ap (λ (f : Fault). f.line) b in
+        let c : Line k ≡ r = ap (λ (f : Fault). f.refusal) b in
         record { before = []; line = l; after = ls; at = k; cut = refl; good = none; wrong = p; number = sym a; is = sym c }
 
 -- serials that come once, and the first that does not
@@ -210,15 +207,15 @@ module _ (s : List ℕ) where
 
   lines_judged : Within s → (c : Checked) → read_all 0 (lines_of s) ≡ c → ((repeat_in [] 0 (map serial_of (lines_of s)) ≡ 0) × Once [] (lines_of s)) ⊎ BadSerial [] 0 (lines_of s) (repeat_in [] 0 (map serial_of (lines_of s)))
       → Judged s (and_then c (repeat_as (repeat_in [] 0 (map serial_of (lines_of s)))))
-  lines_judged w Good e (inl (z, o)) =
+  lines_judged w (Ok u) e (inl (z, o)) =
       subst (λ (m : ℕ). Judged s (repeat_as m)) (sym z) (good (record { within = w; lines = read_lines 0 (lines_of s) e; once = o }))
-  lines_judged w Good e (inr b) =
+  lines_judged w (Ok u) e (inr b) =
       let m : repeat_in [] 0 (map serial_of (lines_of s)) ≡ length b.before + 1 = b.number ∙ omega arith in
       subst (Judged s) (repeat_some (length b.before + 1) (λ z. absurd (omega arith)) ∙ ap repeat_as (sym m))
       (bad (serial w (read_lines 0 (lines_of s) e) b.before b.line b.after b.cut b.once b.came))
-  lines_judged w (Bad m r) e x =
-      let b = bad_line 0 (lines_of s) m r e in
-      let n : length b.before + 1 ≡ m = omega (arith, b.number) in
+  lines_judged w (Err f) e x =
+      let b = bad_line 0 (lines_of s) f.line f.refusal e in
+      let n : length b.before + 1 ≡ f.line = omega (arith, b.number) in
       subst (Judged s) (ap₂ (λ (i : ℕ) (q : Refusal). Bad i q) n (sym b.is)) (bad (line w b.before b.line b.after b.at b.cut b.good b.wrong))
 
   -- a file is good or refused, as request 5 says, and this is what is computed
@@ -260,16 +257,16 @@ compare_can first second out =
 
 module _ (out : List ℕ) where
   abbrev Fits : Compared × List ℕ → Type 0
-  Fits x = (n : ℕ) → x.0.answer ≡ Wrote n → n ≤ length out
+  Fits x = (n : ℕ) → x.0.answer ≡ Ok n → n ≤ length out
 
-  refused_within : (r : Refusal) (n : ℕ) → ◌≡◌ {A = Answer} (Refused r) (Wrote n) → n ≤ length out
+  refused_within : (r : Refusal) (n : ℕ) → ◌≡◌ {A = Answer} (Err r) (Ok n) → n ≤ length out
   refused_within r n e = let z : ◌≡◌ {A = ℕ} 0 1 = cc in absurd (omega arith)
 
   unless_within : (file : ℕ) (c : Checked) (x : Compared × List ℕ) → Fits x → Fits (unless file c out x)
-  unless_within file Good x h = h
-  unless_within file (Bad m r) x h = λ n e. refused_within r n e
+  unless_within file (Ok u) x h = h
+  unless_within file (Err f) x h = λ n e. refused_within f.refusal n e
 
-  wrote_same : (k n : ℕ) → ◌≡◌ {A = Answer} (Wrote k) (Wrote n) → k ≡ n
+  wrote_same : (k n : ℕ) → ◌≡◌ {A = Answer} (Ok k) (Ok n) → k ≡ n
   wrote_same k n e = cc
 
   given_within : (bytes : List ℕ) → Fits (of_neither (giving bytes out))
@@ -278,7 +275,7 @@ module _ (out : List ℕ) where
       (λ h. refused_within _ n (ap (λ (x : Answer × List ℕ). x.0) (gives_none bytes out (length bytes) refl h) ∙ e))
       (λ h. let k : length bytes ≡ n = wrote_same _ n (ap (λ (x : Answer × List ℕ). x.0) (gives bytes out (length bytes) refl h) ∙ e) in omega arith)
 
-pub wrote_within : (first second out : List ℕ) (n : ℕ) → (comparing first second out).0.answer ≡ Wrote n → n ≤ length out
+pub wrote_within : (first second out : List ℕ) (n : ℕ) → (comparing first second out).0.answer ≡ Ok n → n ≤ length out
 unfolding comparing reporting
 wrote_within first second out = unless_within out 1 (checked first) _ (unless_within out 2 (checked second) _ (given_within out (report (lines_of first) (lines_of second))))
 
@@ -289,8 +286,8 @@ parts : (n p f l : ℕ) → p < 2 ^ 32 → f < 2 ^ 8 → l < 2 ^ 16
 parts n p f l a b c = (omega arith, omega arith, omega arith, omega arith)
 
 pub parts_shown : (r : Refusal) (f l : ℕ) → place_of r < 2 ^ 32 → f < 2 ^ 8 → l < 2 ^ 16
-    → (returned_as (record { answer = Refused r; file = f; line = l }) / 2 ^ 56 ≡ number_of r) × (returned_as (record { answer = Refused r; file = f; line = l }) / 2 ^ 48 % 2 ^ 8 ≡ f) × (returned_as (record { answer = Refused r; file = f; line = l }) / 2 ^ 32 % 2 ^ 16 ≡ l) × (returned_as (record { answer = Refused r; file = f; line = l }) % 2 ^ 32 ≡ place_of r)
+    → (returned_as (record { answer = Err r; file = f; line = l }) / 2 ^ 56 ≡ number_of r) × (returned_as (record { answer = Err r; file = f; line = l }) / 2 ^ 48 % 2 ^ 8 ≡ f) × (returned_as (record { answer = Err r; file = f; line = l }) / 2 ^ 32 % 2 ^ 16 ≡ l) × (returned_as (record { answer = Err r; file = f; line = l }) % 2 ^ 32 ≡ place_of r)
 parts_shown r f l a b c = parts (number_of r) (place_of r) f l a b c
 
-pub wrote_shown : (n : ℕ) → n < 2 ^ 32 → (returned_as (record { answer = Wrote n; file = 0; line = 0 }) / 2 ^ 32 ≡ 0) × (returned_as (record { answer = Wrote n; file = 0; line = 0 }) % 2 ^ 32 ≡ n)
+pub wrote_shown : (n : ℕ) → n < 2 ^ 32 → (returned_as (record { answer = Ok n; file = 0; line = 0 }) / 2 ^ 32 ≡ 0) × (returned_as (record { answer = Ok n; file = 0; line = 0 }) % 2 ^ 32 ≡ n)
 wrote_shown n h = (omega arith, omega arith)

@@ -1,18 +1,22 @@
 -- Serials that come once: handles that rise when they are sorted, and no line whose serial came before.
-use Prim.Native.Nat.{ℕ, zero, suc, ◌+◌, ◌-◌, ◌≤◌, ◌<◌}
+use Prim.Native.Nat.{ℕ, zero, suc, ◌+◌, ◌/◌, ◌≤◌, ◌<◌}
 use mathlib.Core.Bool.{Bool, true, false, false≢true}
 use mathlib.Core.Logic.{◌⊎◌, inl, inr, ⊎_elim}
 use mathlib.Core.Path.{◌≡◌, refl, sym, ap, subst, ◌∙◌}
 use mathlib.Core.List.{List, [], ◌∷◌, ◌++◌, map}
 use native.Mathlib.Numerals.{add-one}
 use native.Mathlib.Omega.{arith}
-use borrow.Author.Tests.{eq-eqb, ne_eqb}
-use lib.ListN.{length, take, drop, get_or, length-take, length-drop, drop_of_length-le}
-use lib.Seq.{drop-cons, take-suc, get_or-take, length-take-le}
+use borrow.Author.Tests.{eq-eqb, ne_eqb, ltb-true}
+use lib.Dec.{ltb}
+use lib.ListN.{length, take, drop, get_or, drop_of_length-le}
+use lib.Seq.{drop-cons, take-suc}
+use Rattle.std.specs.Bool.{MatchBool}
+use Rattle.std.specs.List.{IsAllAdjacentAnswer, HoldsAt, AllWithin}
+use Rattle.std.specs.Prelude.{None, Some}
 use Rattle.words.specs.Lists.{among}
 use Rattle.words.proofs.Cases.{by_lt, by_eq, not_true_false}
 use Rattle.changes.specs.Compare.{repeat_in}
-use Rattle.changes.specs.Workings.{serial_in, Above, Ascending, none, more, matching}
+use Rattle.changes.specs.Workings.{some_number, FirstRepeat, serial_in, Above, Ascending, none, more, matching}
 use Rattle.sorting.specs.Sorting.{insert, into, sorted}
 use Rattle.sorting.proofs.Sorting.{insert_le, insert_gt}
 
@@ -199,83 +203,41 @@ none_repeats seen n (another {x = x} {xs = xs} e d) p =
     })
 
 -- sorted handles that rise have no line whose serial came before
-pub rising_once : (a : List ℕ) → Ascending (sorted a) → 0 ≡ repeat_in [] 0 (map serial_in a)
-rising_once a r = sym (none_repeats [] 0 (rising_distinct a r) (record { apart = λ s h. absurd (false≢true h) }))
+pub rising_once : (a : List ℕ) → Ascending (sorted a) → FirstRepeat a None
+rising_once a r = record { number = ap some_number (sym (none_repeats [] 0 (rising_distinct a r) (record { apart = λ s h. absurd (false≢true h) }))); few = tt }
 
 -- ---- the loops
-
--- from the handle before i on: if these rise, all do
-pub record RisesFrom (a : List ℕ) (i : ℕ) : Type 0 where
-  pub some : 1 ≤ i
-  pub few : i ≤ length a + 1
-  pub whole : Ascending (drop (i - 1) a) → Ascending a
 
 rising_more : {x y : ℕ} {l : List ℕ} → serial_in x < serial_in y → Ascending (y ∷ l) → Ascending (x ∷ y ∷ l)
 rising_more h (more a r) = more (more h (above_less (omega arith) a)) (more a r)
 
-pub rises_more : (a : List ℕ) (i : ℕ) → i < length a → serial_in (get_or a (i - 1) 0) < serial_in (get_or a i 0) → RisesFrom a i → RisesFrom a (i + 1)
-rises_more a zero h l r = absurd (omega (arith, r.some))
-rises_more a (suc i) h l r =
-    let e : suc i - 1 ≡ i = omega arith in
-    let f : suc i + 1 - 1 ≡ suc i = omega arith in
-    let less : serial_in (get_or a i 0) < serial_in (get_or a (suc i) 0) = subst (λ (k : ℕ). serial_in (get_or a k 0) < serial_in (get_or a (suc i) 0)) e l in
-    record {
-      some = omega arith;
-      few = omega arith;
-      whole = λ t.
-          let u : Ascending (drop (suc i) a) = subst (λ (k : ℕ). Ascending (drop k a)) f t in
-          let v : Ascending (get_or a i 0 ∷ get_or a (suc i) 0 ∷ drop (suc (suc i)) a) = rising_more less (subst Ascending (drop-cons a (suc i) 0 h) u) in
-          let d : get_or a i 0 ∷ get_or a (suc i) 0 ∷ drop (suc (suc i)) a ≡ drop i a =
-          ap (λ (z : List ℕ). get_or a i 0 ∷ z) (sym (drop-cons a (suc i) 0 h)) ∙ sym (drop-cons a i 0 (omega arith)) in
-          r.whole (subst (λ (k : ℕ). Ascending (drop k a)) (sym e) (subst Ascending d v));
-    }
+-- each serial is below the next
+all_rise : (a : List ℕ) → ((k : ℕ) → suc k < length a → serial_in (get_or a k 0) < serial_in (get_or a (suc k) 0)) → Ascending a
+all_rise [] h = none
+all_rise (x ∷ []) h = more none none
+all_rise (x ∷ y ∷ l) h = rising_more (h 0 (omega arith)) (all_rise (y ∷ l) (λ k i. h (suc k) (omega arith)))
 
-few_rise : (l : List ℕ) → length l ≤ 1 → Ascending l
-few_rise [] h = none
-few_rise (x ∷ []) h = more none none
-few_rise (x ∷ y ∷ l) h = absurd (omega arith)
+pub next_rises : (a : List ℕ) (r : Bool) → IsAllAdjacentAnswer (λ x y b. b ≡ ltb (x / 65536) (y / 65536)) a r → r ≡ true → Ascending a
+next_rises a true h e =
+    all_rise a (λ k i. subst (λ (j : ℕ). serial_in (get_or a k 0) < serial_in (get_or a j 0)) (add-one k) (ltb-true _ _ (sym (h k 0 (omega arith)))))
+next_rises a false h e = absurd (false≢true e)
 
-pub rises_all : (a : List ℕ) (i : ℕ) → length a ≤ i → RisesFrom a i → Ascending a
-rises_all a i h r = r.whole (few_rise (drop (i - 1) a) (omega (arith, length-drop (i - 1) a)))
+-- one of the serials is s, or none
+one_among : (s : ℕ) (l : List ℕ) (k : ℕ) → k < length l → s ≡ serial_in (get_or l k 0) → among s (map serial_in l) ≡ true
+one_among s [] k h e = absurd (omega arith)
+one_among s (x ∷ l) zero h e = among_here s (serial_in x) (map serial_in l) e
+one_among s (x ∷ l) (suc k) h e =
+    by_eq s (serial_in x)
+    (λ q. among_here s (serial_in x) (map serial_in l) q)
+    (λ q. among_later s (serial_in x) (map serial_in l) q ∙ one_among s l k (omega arith) e)
 
--- the handles up to j from i on are still to be looked at
-pub record Looked (a : List ℕ) (j s i : ℕ) : Type 0 where
-  pub within : i ≤ j
-  pub size : j < length a
-  pub short : length a ≤ 1024
-  pub serial : s ≡ serial_in (get_or a j 0)
-  pub whole : among s (map serial_in (drop i (take j a))) ≡ among s (map serial_in (take j a))
+none_among : (s : ℕ) (l : List ℕ) → ((k : ℕ) → k < length l → s ≡ serial_in (get_or l k 0) → ⊥) → among s (map serial_in l) ≡ false
+none_among s [] h = refl
+none_among s (x ∷ l) h = among_later s (serial_in x) (map serial_in l) (h 0 (omega arith)) ∙ none_among s l (λ k i. h (suc k) (omega arith))
 
-module _ (a : List ℕ) (j s i : ℕ) (k : Looked a j s i) (h : i < j) where
-  next_handle : drop i (take j a) ≡ get_or a i 0 ∷ drop (suc i) (take j a)
-  next_handle =
-      drop-cons (take j a) i 0 (omega (arith, length-take-le j a (omega (arith, k.size))))
-      ∙ ap (λ (x : ℕ). x ∷ drop (suc i) (take j a)) (get_or-take j a i 0 h)
-
-  pub looked_found : s ≡ serial_in (get_or a i 0) → true ≡ among (serial_in (get_or a j 0)) (map serial_in (take j a))
-  looked_found e =
-      sym (among_here s (serial_in (get_or a i 0)) (map serial_in (drop (suc i) (take j a))) e)
-      ∙ ap (λ (l : List ℕ). among s (map serial_in l)) (sym next_handle)
-      ∙ k.whole
-      ∙ ap (λ (x : ℕ). among x (map serial_in (take j a))) k.serial
-
-  pub looked_more : (s ≡ serial_in (get_or a i 0) → ⊥) → Looked a j s (i + 1)
-  looked_more e = record {
-    within = omega arith;
-    size = k.size;
-    short = k.short;
-    serial = k.serial;
-    whole =
-        ap (λ (n : ℕ). among s (map serial_in (drop n (take j a)))) (add-one i)
-        ∙ sym (ap (λ (l : List ℕ). among s (map serial_in l)) next_handle ∙ among_later s (serial_in (get_or a i 0)) (map serial_in (drop (suc i) (take j a))) e)
-        ∙ k.whole;
-  }
-
-pub looked_all : (a : List ℕ) (j s i : ℕ) → Looked a j s i → j ≤ i → false ≡ among (serial_in (get_or a j 0)) (map serial_in (take j a))
-looked_all a j s i k h =
-    sym (ap (λ (l : List ℕ). among s (map serial_in l)) (drop_of_length-le (take j a) {i = i} (omega (arith, length-take j a))))
-    ∙ k.whole
-    ∙ ap (λ (x : ℕ). among x (map serial_in (take j a))) k.serial
+pub any_among : (s : ℕ) (l : List ℕ) (r : Bool) → MatchBool r ((k : ℕ) × (k < length l) × HoldsAt (λ x. s ≡ x / 65536) l k) (AllWithin (λ x. s ≡ x / 65536 → ⊥) l 0 (length l)) → r ≡ among s (map serial_in l)
+any_among s l true (k, h, p) = sym (one_among s l k h (p 0))
+any_among s l false h = sym (none_among s l (λ k i. h k 0 (omega arith) i))
 
 -- the serials of the first j handles came once
 pub record NoneYet (a : List ℕ) (j : ℕ) : Type 0 where
@@ -288,10 +250,10 @@ map_snoc [] x = refl
 map_snoc (y ∷ l) x = ap (λ (z : List ℕ). serial_in y ∷ z) (map_snoc l x)
 
 module _ (a : List ℕ) (j : ℕ) (k : NoneYet a j) (h : j < length a) where
-  pub once_not : true ≡ among (serial_in (get_or a j 0)) (map serial_in (take j a)) → j + 1 ≡ repeat_in [] 0 (map serial_in a)
+  pub once_not : true ≡ among (serial_in (get_or a j 0)) (map serial_in (take j a)) → Some (j + 1) ≡ some_number (repeat_in [] 0 (map serial_in a))
   once_not e =
-      sym (ap (λ (l : List ℕ). repeat_in (map serial_in (take j a)) j (map serial_in l)) (drop-cons a j 0 h) ∙ repeat_here (map serial_in (take j a)) j (serial_in (get_or a j 0)) (map serial_in (drop (suc j) a)) (sym e))
-      ∙ k.whole
+      ap Some (add-one j) ∙ ap some_number (sym (add-one j) ∙ sym (ap (λ (l : List ℕ). repeat_in (map serial_in (take j a)) j (map serial_in l)) (drop-cons a j 0 h) ∙ repeat_here (map serial_in (take j a)) j (serial_in (get_or a j 0)) (map serial_in (drop (suc j) a)) (sym e))
+      ∙ k.whole)
 
   pub once_more : false ≡ among (serial_in (get_or a j 0)) (map serial_in (take j a)) → NoneYet a (j + 1)
   once_more e = record {
@@ -304,6 +266,6 @@ module _ (a : List ℕ) (j : ℕ) (k : NoneYet a j) (h : j < length a) where
         ∙ k.whole;
   }
 
-pub once_all : (a : List ℕ) (j : ℕ) → NoneYet a j → length a ≤ j → 0 ≡ repeat_in [] 0 (map serial_in a)
+pub once_all : (a : List ℕ) (j : ℕ) → NoneYet a j → length a ≤ j → None ≡ some_number (repeat_in [] 0 (map serial_in a))
 unfolding repeat_in
-once_all a j k h = sym (ap (λ (l : List ℕ). repeat_in (map serial_in (take j a)) j (map serial_in l)) (drop_of_length-le a {i = j} h)) ∙ k.whole
+once_all a j k h = ap some_number (sym (ap (λ (l : List ℕ). repeat_in (map serial_in (take j a)) j (map serial_in l)) (drop_of_length-le a {i = j} h)) ∙ k.whole)

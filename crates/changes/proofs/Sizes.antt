@@ -16,8 +16,7 @@ use Rattle.words.proofs.Laws.{digits_take, digits_drop}
 use Rattle.texts.specs.Lines.{lines_of, line_length}
 use Rattle.texts.specs.Texts.{spelled, decimal}
 use Rattle.changes.specs.Report.{differ_at, bits_of, first_text, second_text, both_text, serial_digits, saying, pair, report}
-use Rattle.changes.specs.Compare.{checked}
-use Rattle.changes.specs.declared.Checked.TheVariants.{Good}
+use Rattle.changes.specs.Compare.{Good, checked}
 use Rattle.changes.specs.Workings.{serial_in, start_in, line_in, HandleIn, Each, none, more, none as none_above, more as more_above, Ascending, none as none_rising, more as more_rising, reported, handles_of, GoodHandles}
 use Rattle.changes.proofs.Serials.{above_less}
 use Rattle.changes.proofs.Pairs.{pair_same, pair_other, pair_differs}

@@ -133,9 +133,9 @@ module _ (s : List ℕ) (x : ℕ) (k : HandleIn s x) where
   pub handle_line : (e : ℕ) → e ≡ start_in x + line_length (drop (start_in x) s) → take (e - start_in x) (drop (start_in x) s) ≡ line_in s x
   handle_line e p = part_line s (start_in x) e p
 
-  pub handle_length : (e : ℕ) → e ≡ start_in x + line_length (drop (start_in x) s) → (37 ≤ length (take (e - start_in x) (drop (start_in x) s))) × (length (take (e - start_in x) (drop (start_in x) s)) ≤ length s)
-  handle_length e p =
-      let n : length (take (e - start_in x) (drop (start_in x) s)) ≡ line_length (drop (start_in x) s) = ap length (handle_line e p) ∙ line_length_lem s (start_in x) handle_start in
+  pub handle_length : (37 ≤ length (line_in s x)) × (length (line_in s x) ≤ length s)
+  handle_length =
+      let n : length (line_in s x) ≡ line_length (drop (start_in x) s) = line_length_lem s (start_in x) handle_start in
       (omega (arith, n, k.line), omega (arith, n, (line_within s (start_in x) handle_start).1))
 
 pub each_at : {s a : List ℕ} → Each s a → (i : ℕ) → i < length a → HandleIn s (get_or a i 0)

@@ -1,18 +1,15 @@
 -- Request 5: what comparing two files answers, and what it leaves; refusals, first file before second.
-use Rattle.std.specs.Prelude.{ℕ, zero, suc, ◌+◌, ◌*◌, ◌^◌, cond, List, [], ◌∷◌, ◌++◌, map, length}
+use Rattle.std.specs.Prelude.{ℕ, zero, suc, ◌+◌, ◌*◌, ◌^◌, cond, List, [], ◌∷◌, ◌++◌, map, length, Result, Ok, Err, ⊤}
 use Rattle.words.specs.Cases.{if_le}
 use Rattle.words.specs.Lists.{among}
-use Rattle.refusals.specs.declared.Answer.{Answer}
-use Rattle.refusals.specs.declared.Answer.TheVariants.{Refused}
+use Rattle.refusals.specs.Refusals.{Answer, returned_of, giving}
+use Rattle.refusals.specs.declared.Refusal.{Refusal}
 use Rattle.refusals.specs.declared.Refusal.TheVariants.{Line, RepeatedSerial, TooLarge}
-use Rattle.refusals.specs.Refusals.{returned_of, giving}
 use Rattle.line.specs.Reader.{serial_of, reading}
-use Rattle.line.specs.declared.Reading.{Reading}
-use Rattle.line.specs.declared.Reading.TheVariants.{Fields, NotLine}
+use Rattle.line.specs.Line.{Reading}
 use Rattle.texts.specs.Lines.{lines_of}
 use Rattle.changes.specs.Report.{report}
-use Rattle.changes.specs.declared.Checked.{Checked}
-use Rattle.changes.specs.declared.Checked.TheVariants.{Good, Bad}
+use Rattle.changes.specs.declared.Fault.{Fault}
 use Rattle.changes.specs.declared.Compared.{Compared}
 
 -- "each at most 1,024 lines and 64 KiB"
@@ -22,10 +19,20 @@ lines_max = 1024
 abbrev pub file_max : ℕ
 file_max = 65536
 
+-- what is said of a file by itself: it is good, or a refusal, with the line's number
+abbrev pub Checked : Type 0
+Checked = Result ⊤ Fault
+
+abbrev pub Good : Checked
+Good = Ok tt
+
+abbrev pub Bad : ℕ → Refusal → Checked
+Bad n r = Err (record { line = n; refusal = r })
+
 -- "7 with line and place": line n + 1 reads so, or else what is said of the lines behind it
 abbrev pub line_as : ℕ → Reading → Checked → Checked
-line_as n (Fields serial l m label_place sealed_place) x = x
-line_as n (NotLine k) x = Bad (n + 1) (Line k)
+line_as n (Ok f) x = x
+line_as n (Err e) x = Bad (n + 1) (Line e.place)
 
 -- the first of the lines behind the first n that is not good
 unfoldable pub read_all : ℕ → List (List ℕ) → Checked
@@ -44,8 +51,8 @@ repeat_as (suc n) = Bad (suc n) RepeatedSerial
 
 -- what comes after a check that found nothing
 abbrev pub and_then : Checked → Checked → Checked
-and_then Good x = x
-and_then (Bad n r) x = Bad n r
+and_then (Ok u) x = x
+and_then (Err f) x = Err f
 
 abbrev pub checked_lines : List (List ℕ) → Checked
 checked_lines ls = and_then (read_all 0 ls) (repeat_as (repeat_in [] 0 (map serial_of ls)))
@@ -54,10 +61,14 @@ checked_lines ls = and_then (read_all 0 ls) (repeat_as (repeat_in [] 0 (map seri
 unfoldable pub checked : List ℕ → Checked
 checked s = if_le (length s) file_max (if_le (length (lines_of s)) lines_max (checked_lines (lines_of s)) (Bad 0 TooLarge)) (Bad 0 TooLarge)
 
+-- what comparing answers where a file is refused
+abbrev pub refused_as : ℕ → Fault → Compared
+refused_as file f = record { answer = Err f.refusal; file = file; line = f.line }
+
 -- a file's refusal, with the lent memory as it was, or what comes after
 abbrev pub unless : ℕ → Checked → List ℕ → Compared × List ℕ → Compared × List ℕ
-unless file Good out x = x
-unless file (Bad n r) out x = (record { answer = Refused r; file = file; line = n }, out)
+unless file (Ok u) out x = x
+unless file (Err f) out x = (refused_as file f, out)
 
 -- an answer that is about neither file
 abbrev pub of_neither : Answer × List ℕ → Compared × List ℕ

@@ -6,9 +6,7 @@ use Rattle.refusals.specs.declared.Refusal.TheVariants.{Line, RepeatedSerial, To
 use Rattle.line.specs.Line.{GoodLine, Place}
 use Rattle.line.specs.Reader.{serial_of}
 use Rattle.texts.specs.Lines.{lines_of}
-use Rattle.changes.specs.Compare.{lines_max, file_max}
-use Rattle.changes.specs.declared.Checked.{Checked}
-use Rattle.changes.specs.declared.Checked.TheVariants.{Good, Bad}
+use Rattle.changes.specs.Compare.{lines_max, file_max, Checked, Good, Bad}
 
 -- each of the lines is good
 pub data AllGood : List (List ℕ) → Type 0 where

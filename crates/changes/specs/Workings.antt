@@ -1,13 +1,11 @@
 -- What contracts of private functions say: handles, and the walk over two sorted lists. Not from the paper.
-use Rattle.std.specs.Prelude.{ℕ, ◌+◌, ◌*◌, ◌/◌, ◌%◌, ◌^◌, ◌≤◌, ◌<◌, cond, ◌≡◌, List, [], ◌∷◌, map, eqb, length, take, drop}
+use Rattle.std.specs.Prelude.{Option, None, Some, IfSome, Result, Err, MatchResult, ℕ, zero, suc, ◌+◌, ◌*◌, ◌/◌, ◌%◌, ◌^◌, ◌≤◌, ◌<◌, cond, ◌≡◌, List, [], ◌∷◌, map, eqb, length, take, drop}
 use Rattle.line.specs.Reader.{serial_of}
 use Rattle.texts.specs.Lines.{lines_of, line_length}
 use Rattle.sorting.specs.Sorting.{sorted}
 use Rattle.changes.specs.Report.{change, rising}
-use Rattle.changes.specs.Compare.{read_all, repeat_in, checked_lines, checked}
-use Rattle.changes.specs.declared.Loaded.{Loaded}
-use Rattle.changes.specs.declared.Checked.{Checked}
-use Rattle.changes.specs.declared.Checked.TheVariants.{Good}
+use Rattle.changes.specs.Compare.{Checked, Good, read_all, repeat_in, checked_lines, checked}
+use Rattle.changes.specs.declared.Fault.{Fault}
 
 -- ---- handles: a line's serial, and where it begins in its file
 
@@ -38,17 +36,25 @@ pub data Each (s : List ℕ) : List ℕ → Type 0 where
   none : Each s []
   more : {x : ℕ} {xs : List ℕ} → HandleIn s x → Each s xs → Each s (x ∷ xs)
 
--- the lines are read: the first that is not good, or the handles of all
-pub record HandlesRead (s : List ℕ) (r : Checked) (handles : List ℕ) : Type 0 where
-  pub answer : r ≡ read_all 0 (lines_of s)
-  pub made : r ≡ Good → handles ≡ handles_from 0 (lines_of s)
+-- the lines are read: the handles of all, or the first that is not good
+abbrev pub HandlesRead : List ℕ → List ℕ → Checked → Type 0
+HandlesRead s handles r = MatchResult r (λ _. (read_all 0 (lines_of s) ≡ Good) × (handles ≡ handles_from 0 (lines_of s))) (λ f. read_all 0 (lines_of s) ≡ Err f)
 
 -- ---- handles in order
 
--- the handles are sorted, and r is the number of the first whose serial came before, or 0
-pub record Ordered (handles : List ℕ) (r : ℕ) (out : List ℕ) : Type 0 where
-  pub number : r ≡ repeat_in [] 0 (map serial_in handles)
-  pub few : r ≤ 1024
+-- a number that is 0 where there is none
+abbrev pub some_number : ℕ → Option ℕ
+some_number zero = None
+some_number (suc n) = Some (suc n)
+
+-- r is the number of the first of the handles, from 1, whose serial came before
+pub record FirstRepeat (handles : List ℕ) (r : Option ℕ) : Type 0 where
+  pub number : r ≡ some_number (repeat_in [] 0 (map serial_in handles))
+  pub few : IfSome r (λ n. n ≤ 1024)
+
+-- the handles are sorted, and r is that number
+pub record Ordered (handles : List ℕ) (r : Option ℕ) (out : List ℕ) : Type 0 where
+  pub first : FirstRepeat handles r
   pub list : out ≡ sorted handles
 
 -- ---- rising serials
@@ -91,16 +97,12 @@ pub record Walkable (s a : List ℕ) : Type 0 where
 unfoldable pub handles_of : List ℕ → List ℕ
 handles_of s = sorted (handles_from 0 (lines_of s))
 
-pub record LinesLoaded (s : List ℕ) (r : Checked) (handles : List ℕ) : Type 0 where
-  pub answer : r ≡ checked_lines (lines_of s)
-  pub made : r ≡ Good → handles ≡ handles_of s
-
-pub record FileLoaded (s : List ℕ) (r : Loaded) (handles : List ℕ) : Type 0 where
-  pub answer : r.checked ≡ checked s
-  pub few : r.count ≤ 1024
-  pub made : r.checked ≡ Good → take r.count handles ≡ handles_of s
-  pub count : r.checked ≡ Good → r.count ≤ length handles
+abbrev pub LinesLoaded : List ℕ → List ℕ → Checked → Type 0
+LinesLoaded s handles r = MatchResult r (λ _. (checked_lines (lines_of s) ≡ Good) × (handles ≡ handles_of s)) (λ f. checked_lines (lines_of s) ≡ Err f)
 
 pub record GoodHandles (s handles : List ℕ) : Type 0 where
   pub good : checked s ≡ Good
   pub made : handles ≡ handles_of s
+
+abbrev pub FileLoaded : List ℕ → List ℕ → Result ℕ Fault → Type 0
+FileLoaded s handles r = MatchResult r (λ n. (n ≤ length handles) × GoodHandles s (take n handles)) (λ f. checked s ≡ Err f)

@@ -5,7 +5,9 @@ use mathlib.Core.Path.{◌≡◌, refl}
 use lib.ListN.{replicate}
 use Rattle.line.specs.Reader.{hex_value, number_at, stands, fits, place, good, reading}
 use Rattle.line.specs.Calls.{opening_line}
-use Rattle.listing.specs.Listing.{lines_of, is_key, spelled, answer_of, listed, listing}
+use Rattle.texts.specs.Texts.{spelled}
+use Rattle.texts.specs.Lines.{lines_of}
+use Rattle.listing.specs.Listing.{is_key, answer_of, listed, listing}
 
 -- "a key line of 32 zeros, then `01` and byte 0A"
 abbrev input : List ℕ

@@ -56,11 +56,11 @@ module _ (c : Cipher) (b : ℕ) (s : Schedule) (x : State) {ci : Cells} {r : Sta
 pub whole : (c : Cipher) (b r : ℕ) (s : Schedule) (t p : Cells) (x : State) (i j : ℕ) {d m : State} {answer : Cells}
     → d ≡ forward_steps c b s i record { block = added p s.w0; tweak = t } → i ≡ r
     → m ≡ middle c b s d
-    → backward_steps c b s j x ≡ backward_steps c b s i m → j ≡ 1
+    → backward_steps c b s j x ≡ backward_steps c b s r m → j ≡ 1
     → answer ≡ added (backward_steps c b s 1 x).block s.w1
     → answer ≡ engine c b r s t p
 unfolding engine
 whole c b r s t p x i j {d} {m} {answer} hd hi hm hu hj ha =
-    let left : backward_steps c b s 1 x ≡ backward_steps c b s r m = rw (hi, hj) at hu in
+    let left : backward_steps c b s 1 x ≡ backward_steps c b s r m = rw hj at hu in
     let came : m ≡ middle c b s (forward_steps c b s r record { block = added p s.w0; tweak = t }) = hm ∙ ap (middle c b s) (rw hi at hd) in
     ha ∙ ap (λ (y : State). added y.block s.w1) (left ∙ ap (backward_steps c b s r) came)

@@ -1,14 +1,29 @@
 -- The laws of rounds and steps, over the cell width: they keep to the cells, and a backward round undoes a forward one.
 use mathlib.Core.Path.{◌≡◌}
-use Prim.Native.Nat.{ℕ, zero, suc, ◌<◌}
+use Prim.Native.Nat.{ℕ, zero, suc, ◌<◌, ◌≤◌}
+use native.Mathlib.Omega.{arith}
 use Rattle.cells.specs.Cells.{Cipher, Below, looked, shuffled, unshuffled, mixed}
+use Rattle.cells.specs.Boxes.{sbox_number}
 use Rattle.cells.specs.declared.Cells.{Cells}
+use Rattle.cells.specs.declared.Sbox.{Sbox}
+use Rattle.cells.specs.declared.Sbox.TheVariants.{Sigma0, Sigma1, Sigma2}
 use Rattle.cells.proofs.Laws.{added_below, added_twice}
 use Rattle.cells.proofs.Mix.{mixed_added}
 use Rattle.cells.proofs.Lawful.{Lawful, shuffled_below, unshuffled_below, unshuffle_shuffle, shuffle_unshuffle, mix_below, mix_twice, boxed_below, unboxed_below, unbox_boxed, box_unboxed, stepped_below, unstepped_below}
 use Rattle.cipher.specs.Engine.{ScheduleBelow, StateBelow, forward, short_forward, backward, short_backward, forward_at, backward_at, forward_word, backward_word, forward_step, forward_steps, centre, middle, backward_step, backward_steps, turned}
 use Rattle.cipher.specs.declared.Schedule.{Schedule}
 use Rattle.cipher.specs.declared.State.{State}
+
+-- the number of a box is below 3
+pub sbox_below : (sbox : Sbox) → sbox_number sbox < 3
+sbox_below Sigma0 = omega arith
+sbox_below Sigma1 = omega arith
+sbox_below Sigma2 = omega arith
+
+pub sbox_at_most : (sbox : Sbox) → sbox_number sbox ≤ 2
+sbox_at_most Sigma0 = omega arith
+sbox_at_most Sigma1 = omega arith
+sbox_at_most Sigma2 = omega arith
 
 module _ {c : Cipher} (k : Lawful c) {b : ℕ} (n : b < 3) {x t : Cells} (p : Below c.bits x) (q : Below c.bits t) where
   pub forward_below : Below c.bits (forward c b x t)

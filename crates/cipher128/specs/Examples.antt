@@ -7,7 +7,7 @@ use Rattle.cipher.specs.Engine.{w1_from}
 use Rattle.cipher.specs.Numbers.{Numbers, turned_numbers}
 use Rattle.cells128.specs.declared.Pair.{Pair}
 use Rattle.cipher128.specs.Words.{key_words, turned_words}
-use Rattle.cipher128.specs.declared.Words.{Words}
+use Rattle.cipher.specs.declared.Words.{Words}
 
 -- the tweak step on a word
 abbrev stepped_word : ℕ → List ℕ
@@ -24,7 +24,7 @@ turned_four a b c d = four_numbers (turned_numbers qarma128 record { w0 = a; w1 
 abbrev pair : ℕ → ℕ → Pair
 pair h l = record { high = h; low = l }
 
-abbrev eight_numbers : Words → List ℕ
+abbrev eight_numbers : Words Pair → List ℕ
 eight_numbers s = s.w0.high ∷ s.w0.low ∷ s.w1.high ∷ s.w1.low ∷ s.k0.high ∷ s.k0.low ∷ s.k1.high ∷ s.k1.low ∷ []
 
 unfoldable pub table : List (List ℕ × List ℕ)

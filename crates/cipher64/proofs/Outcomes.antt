@@ -1,34 +1,37 @@
 -- One outcome: each public contract of `cipher64` leaves one answer and one content of lent memory.
-use mathlib.Core.Path.{refl, sym, ◌∙◌}
+use Rattle.std.proofs.Common.{refl, sym, ◌∙◌}
 use Rattle.words.proofs.Decided.{Decided}
 use Rattle.cipher64.proofs
 
-pub schedule_of_decided : Decided proofs.schedule_of.Kinds.ps proofs.schedule_of.Kinds.r proofs.schedule_of.Reads.Post
-schedule_of_decided κs a x y v w p q = (p ∙ sym q, refl)
+pub of_decided : Decided proofs.Qarma64Width.of.Kinds.ps proofs.Qarma64Width.of.Kinds.r proofs.Qarma64Width.of.Reads.Post
+of_decided κs a x y v w p q = (p ∙ sym q, refl)
 
-pub key_schedule_decided : Decided proofs.key_schedule.Kinds.ps proofs.key_schedule.Kinds.r proofs.key_schedule.Reads.Post
-key_schedule_decided κs a x y v w p q = (p ∙ sym q, refl)
+pub word_decided : Decided proofs.Qarma64Width.word.Kinds.ps proofs.Qarma64Width.word.Kinds.r proofs.Qarma64Width.word.Reads.Post
+word_decided κs a x y v w p q = (p ∙ sym q, refl)
 
-pub words_of_decided : Decided proofs.words_of.Kinds.ps proofs.words_of.Kinds.r proofs.words_of.Reads.Post
-words_of_decided κs a x y v w p q = (p ∙ sym q, refl)
+pub boxed_decided : Decided proofs.Qarma64Width.boxed.Kinds.ps proofs.Qarma64Width.boxed.Kinds.r proofs.Qarma64Width.boxed.Reads.Post
+boxed_decided κs a x y v w p q = (p ∙ sym q, refl)
 
-pub turn_decided : Decided proofs.turn.Kinds.ps proofs.turn.Kinds.r proofs.turn.Reads.Post
-turn_decided κs a x y v w p q = (p ∙ sym q, refl)
+pub unboxed_decided : Decided proofs.Qarma64Width.unboxed.Kinds.ps proofs.Qarma64Width.unboxed.Kinds.r proofs.Qarma64Width.unboxed.Reads.Post
+unboxed_decided κs a x y v w p q = (p ∙ sym q, refl)
 
-pub engine_on_cells_decided : Decided proofs.engine_on_cells.Kinds.ps proofs.engine_on_cells.Kinds.r proofs.engine_on_cells.Reads.Post
-engine_on_cells_decided κs a x y v w p q = (p ∙ sym q, refl)
+pub mix_decided : Decided proofs.Qarma64Width.mix.Kinds.ps proofs.Qarma64Width.mix.Kinds.r proofs.Qarma64Width.mix.Reads.Post
+mix_decided κs a x y v w p q = (p ∙ sym q, refl)
 
-pub key_words_decided : Decided proofs.key_words.Kinds.ps proofs.key_words.Kinds.r proofs.key_words.Reads.Post
-key_words_decided κs a x y v w p q = (p ∙ sym q, refl)
+pub step_decided : Decided proofs.Qarma64Width.step.Kinds.ps proofs.Qarma64Width.step.Kinds.r proofs.Qarma64Width.step.Reads.Post
+step_decided κs a x y v w p q = (p ∙ sym q, refl)
 
-pub turn_words_decided : Decided proofs.turn_words.Kinds.ps proofs.turn_words.Kinds.r proofs.turn_words.Reads.Post
-turn_words_decided κs a x y v w p q = (p ∙ sym q, refl)
+pub unstep_decided : Decided proofs.Qarma64Width.unstep.Kinds.ps proofs.Qarma64Width.unstep.Kinds.r proofs.Qarma64Width.unstep.Reads.Post
+unstep_decided κs a x y v w p q = (p ∙ sym q, refl)
 
-pub engine_decided : Decided proofs.engine.Kinds.ps proofs.engine.Kinds.r proofs.engine.Reads.Post
-engine_decided κs a x y v w p q = (p ∙ sym q, refl)
+pub alpha_decided : Decided proofs.Qarma64Width.alpha.Kinds.ps proofs.Qarma64Width.alpha.Kinds.r proofs.Qarma64Width.alpha.Reads.Post
+alpha_decided κs a x y v w p q = (p ∙ sym q, refl)
 
-pub encipher_decided : Decided proofs.encipher.Kinds.ps proofs.encipher.Kinds.r proofs.encipher.Reads.Post
-encipher_decided κs a x y v w p q = (p ∙ sym q, refl)
+pub constant_decided : Decided proofs.Qarma64Width.constant.Kinds.ps proofs.Qarma64Width.constant.Kinds.r proofs.Qarma64Width.constant.Reads.Post
+constant_decided κs a x y v w p q = (p ∙ sym q, refl)
 
-pub decipher_decided : Decided proofs.decipher.Kinds.ps proofs.decipher.Kinds.r proofs.decipher.Reads.Post
-decipher_decided κs a x y v w p q = (p ∙ sym q, refl)
+pub w1_from_decided : Decided proofs.Qarma64Width.w1_from.Kinds.ps proofs.Qarma64Width.w1_from.Kinds.r proofs.Qarma64Width.w1_from.Reads.Post
+w1_from_decided κs a x y v w p q = (p ∙ sym q, refl)
+
+pub rounds_decided : Decided proofs.Qarma64Width.rounds.Kinds.ps proofs.Qarma64Width.rounds.Kinds.r proofs.Qarma64Width.rounds.Reads.Post
+rounds_decided κs a x y v w p q = (p ∙ sym q, refl)

@@ -1,9 +1,7 @@
 // The comparison of two files: prints what changed between them.
 #![tactic(auto)]
 
-ghost use Rattle.std.specs.Prelude.{◌≤◌, length, IfOk, IfSome};
-
-use refusals::{Answer, Refusal};
+use refusals::Refusal;
 use std::io::Read;
 use std::rt::Files;
 use std::{env, fs, io};
@@ -44,43 +42,38 @@ fn refuse(rt: &impl Eprint, name: &str, line: u16, r: Refusal) {
     };
 }
 
-// Reads a file to its end, or as much of it as there is room for, and answers how many bytes it read.
-fn read_all(file: &mut impl Read, buf: &mut [u8]) -> io::Result<usize>
-    ensures { IfOk result (λ n. n ≤ length buf.new) }
-{
+// Reads a file to its end, or as much of it as there is room for, and answers the bytes that it read.
+fn read_all<'a>(file: &mut impl Read, buf: &'a mut [u8]) -> io::Result<&'a [u8]> {
+    // No `read_to_end`: the room ends it, and a read brings as many bytes as it will, so that no range counts the steps.
     let mut done = 0;
     while done < buf.len() {
         let n = file.read(&mut buf[done..])?;
         if n == 0 {
-            return Ok(done);
+            break;
         }
         done += n;
     }
-    Ok(done)
+    Ok(&buf[..done])
 }
 
 // Reads the file with this name.
-fn read_file<R: Files>(rt: &R, name: &str, buf: &mut [u8]) -> io::Result<usize>
-    ensures { IfOk result (λ n. n ≤ length buf.new) }
-{
+fn read_file<'a, R: Files>(rt: &R, name: &str, buf: &'a mut [u8]) -> io::Result<&'a [u8]> {
     let mut file = fs::open(rt, name)?;
     read_all(&mut file, buf)
 }
 
 // Reads the file that an argument names, or says why it cannot be read.
-fn read_argument<R: Files + Eprint + AllocGlobal>(
+fn read_argument<'a, R: Files + Eprint + AllocGlobal>(
     rt: &R,
     name: &str,
-    buf: &mut [u8],
-) -> Option<usize>
-    ensures { IfSome result (λ n. n ≤ length buf.new) }
-{
+    buf: &'a mut [u8],
+) -> Option<&'a [u8]> {
     if name.len() > NAME_MAX {
         say(rt, "compare", "File name too long");
         return None;
     }
     match read_file(rt, name, buf) {
-        Ok(n) => Some(n),
+        Ok(bytes) => Some(bytes),
         Err(error) => {
             fail(rt, name, error);
             None
@@ -98,19 +91,15 @@ fn report(
 ) {
     let mut out = [0u8; 65536];
     let c = changes::compare(first, second, &mut out);
-    let answer = c.answer;
-    match answer {
-        Answer::Wrote { count } => {
+    match c.answer {
+        Ok(count) => {
             if rt.write_all(&out[..count as usize]).is_err() {
                 say(rt, "compare", "writing failed");
             }
         }
-        Answer::Refused(r) => {
-            if c.file == 1 {
-                refuse(rt, first_name, c.line, r);
-            } else {
-                refuse(rt, second_name, c.line, r);
-            }
+        Err(r) => {
+            let name = if c.file == 1 { first_name } else { second_name };
+            refuse(rt, name, c.line, r);
         }
     }
 }
@@ -118,15 +107,15 @@ fn report(
 // Compares the files with these names.
 fn compare<R: Files + Print + Eprint + AllocGlobal>(rt: &R, first_name: &str, second_name: &str) {
     // One byte more than a file may have, so that a longer one is refused.
-    let mut first = [0u8; 65537];
-    let mut second = [0u8; 65537];
-    let Some(m) = read_argument(rt, first_name, &mut first) else {
+    let mut first_room = [0u8; 65537];
+    let mut second_room = [0u8; 65537];
+    let Some(first) = read_argument(rt, first_name, &mut first_room) else {
         return;
     };
-    let Some(n) = read_argument(rt, second_name, &mut second) else {
+    let Some(second) = read_argument(rt, second_name, &mut second_room) else {
         return;
     };
-    report(rt, first_name, &first[..m], second_name, &second[..n]);
+    report(rt, first_name, first, second_name, second);
 }
 
 fn main(rt: HostRuntime) {

@@ -13,10 +13,9 @@ use lib.Pow.{pow-add, pow_pos, mod-mod-pow}
 use lib.Seq.{take_at}
 use Rattle.words.specs.Cases.{if_yes}
 use Rattle.words.specs.Digits.{word, Digits}
-use Rattle.refusals.specs.declared.Answer.{Answer}
-use Rattle.refusals.specs.declared.Answer.TheVariants.{Wrote, Refused}
+use Rattle.refusals.specs.Refusals.{Answer, written}
+use Rattle.std.specs.Prelude.{Ok, Err}
 use Rattle.refusals.specs.declared.Refusal.TheVariants.{Length, Serial, SealedSize, Room, Disagrees}
-use Rattle.refusals.specs.Refusals.{written}
 use Rattle.words.specs.Lists.{among}
 use Rattle.words.proofs.Cases.{le_case, gt_case, yes_case, no_case, yes_or_no, by_lt, not_true_false}
 use Rattle.refusals.proofs.Answers.{not_both, Can, can_refused, can_wrote, can_same, can_le, can_yes, can_give, gives}
@@ -28,7 +27,7 @@ use Rattle.frame.specs.Blocks.{part, tweak, opened_purpose}
 use Rattle.frame.specs.Frames.{message_max, label_max, serial_max, frame_engine, sealed_size, sealed_bytes, sealing, opened_block, opened_message, accepted, opening, SealedFrom, Within}
 use Rattle.frame.proofs.Fills.{fill_found}
 use Rattle.frame.proofs.Limits.{goes_on, long_message, long_label, high_serial, can_limited}
-use Rattle.frame.proofs.Opening.{accepted_sealed, accepted_both, sealed_length, message_length_lem, sealed_size_lem, sealed_accepted, sealed_message}
+use Rattle.frame.proofs.Opening.{accepted_sealed, accepted_both, sealed_length, message_written, sealed_size_lem, sealed_accepted, sealed_message}
 
 module _ (w0 k0 serial : ℕ) (a : List ℕ) where
   -- the schedule of the key
@@ -40,28 +39,28 @@ module _ (w0 k0 serial : ℕ) (a : List ℕ) where
 
   -- with enough room, sealing writes the sealed bytes
   pub seals : (m out : List ℕ) → Within serial a (length m) → sealed_size (length m) ≤ length out
-      → sealing w0 k0 serial a m out ≡ (Wrote (sealed_size (length m)), sealed_bytes s serial a m ++ drop (sealed_size (length m)) out)
+      → sealing w0 k0 serial a m out ≡ (Ok (sealed_size (length m)), sealed_bytes s serial a m ++ drop (sealed_size (length m)) out)
   unfolding sealing
   seals m out h room =
       sym (gives (sealed_bytes s serial a m) out _ (sealed_length s serial a m) room ∙ goes_on serial a (length m) out _ h)
 
   -- outside the limits opening gives 2 or 3
   module _ (n : ℕ) (c out : List ℕ) where
-    pub open_message : message_max < n → opening w0 k0 serial n a c out ≡ (Refused Length, out)
+    pub open_message : message_max < n → opening w0 k0 serial n a c out ≡ (Err Length, out)
     unfolding opening
     open_message h = sym (long_message serial a n out _ h)
 
-    pub open_label : n ≤ message_max → label_max < length a → opening w0 k0 serial n a c out ≡ (Refused Length, out)
+    pub open_label : n ≤ message_max → label_max < length a → opening w0 k0 serial n a c out ≡ (Err Length, out)
     unfolding opening
     open_label h l = sym (long_label serial a n out _ h l)
 
-    pub open_serial : n ≤ message_max → length a ≤ label_max → serial_max < serial → opening w0 k0 serial n a c out ≡ (Refused Serial, out)
+    pub open_serial : n ≤ message_max → length a ≤ label_max → serial_max < serial → opening w0 k0 serial n a c out ≡ (Err Serial, out)
     unfolding opening
     open_serial h l k = sym (high_serial serial a n out _ h l k)
 
   module _ (n : ℕ) (c out : List ℕ) (h : Within serial a n) where
     abbrev found : Answer × List ℕ
-    found = if_yes (accepted s serial a n c) (written (opened_message (turned qarma64 s) serial n c) out) (Refused Disagrees, out)
+    found = if_yes (accepted s serial a n c) (written (opened_message (turned qarma64 s) serial n c) out) (Err Disagrees, out)
 
     within : n ≤ length out → length c ≡ sealed_size n → opening w0 k0 serial n a c out ≡ found
     unfolding opening
@@ -72,37 +71,35 @@ module _ (w0 k0 serial : ℕ) (a : List ℕ) where
         ∙ goes_on serial a n out _ h)
 
     pub accepts : n ≤ length out → length c ≡ sealed_size n → accepted s serial a n c ≡ true
-        → opening w0 k0 serial n a c out ≡ (Wrote n, opened_message (turned qarma64 s) serial n c ++ drop n out)
+        → opening w0 k0 serial n a c out ≡ (Ok n, opened_message (turned qarma64 s) serial n c ++ drop n out)
     accepts room e y =
-        within room e
-        ∙ sym (yes_case (accepted s serial a n c) _ _ y)
-        ∙ ap (λ (k : ℕ). (Wrote k, opened_message (turned qarma64 s) serial n c ++ drop k out)) (message_length_lem (turned qarma64 s) serial n c)
+        within room e ∙ sym (message_written (turned qarma64 s) serial n c out ∙ yes_case (accepted s serial a n c) _ _ y)
 
-    pub disagrees : n ≤ length out → length c ≡ sealed_size n → accepted s serial a n c ≡ false → opening w0 k0 serial n a c out ≡ (Refused Disagrees, out)
-    disagrees room e y = within room e ∙ sym (no_case (accepted s serial a n c) _ (Refused Disagrees, out) y)
+    pub disagrees : n ≤ length out → length c ≡ sealed_size n → accepted s serial a n c ≡ false → opening w0 k0 serial n a c out ≡ (Err Disagrees, out)
+    disagrees room e y = within room e ∙ sym (no_case (accepted s serial a n c) _ (Err Disagrees, out) y)
 
     -- opening accepts what was sealed, and hands out the message
-    pub opens : n ≤ length out → (x : SealedFrom s serial a n c) → opening w0 k0 serial n a c out ≡ (Wrote n, x.message ++ drop n out)
+    pub opens : n ≤ length out → (x : SealedFrom s serial a n c) → opening w0 k0 serial n a c out ≡ (Ok n, x.message ++ drop n out)
     opens room x =
-        accepts room (sealed_size_lem g serial a x) (sealed_accepted g serial a x) ∙ ap (λ (m : List ℕ). (Wrote n, m ++ drop n out)) (sealed_message g serial a x)
+        accepts room (sealed_size_lem g serial a x) (sealed_accepted g serial a x) ∙ ap (λ (m : List ℕ). (Ok n, m ++ drop n out)) (sealed_message g serial a x)
 
     -- and nothing else: other sealed bytes of the right length are refused, 6
-    pub refuses : n ≤ length out → Digits 8 c → length c ≡ sealed_size n → (SealedFrom s serial a n c → ⊥) → opening w0 k0 serial n a c out ≡ (Refused Disagrees, out)
+    pub refuses : n ≤ length out → Digits 8 c → length c ≡ sealed_size n → (SealedFrom s serial a n c → ⊥) → opening w0 k0 serial n a c out ≡ (Err Disagrees, out)
     refuses room hc e never = disagrees room e (not_true_false (accepted s serial a n c) (λ y. never (accepted_sealed g serial a n hc e y)))
 
-    pub refuses_size : (length c ≡ sealed_size n → ⊥) → opening w0 k0 serial n a c out ≡ (Refused SealedSize, out)
+    pub refuses_size : (length c ≡ sealed_size n → ⊥) → opening w0 k0 serial n a c out ≡ (Err SealedSize, out)
     unfolding opening
     refuses_size other =
         sym
-        (no_case (eqb (length c) (sealed_size n)) _ (Refused SealedSize, out) (ne_eqb (length c) (sealed_size n) other)
+        (no_case (eqb (length c) (sealed_size n)) _ (Err SealedSize, out) (ne_eqb (length c) (sealed_size n) other)
         ∙ goes_on serial a n out _ h)
 
     -- without the room, refusal 5
-    pub no_room : length c ≡ sealed_size n → length out < n → opening w0 k0 serial n a c out ≡ (Refused Room, out)
+    pub no_room : length c ≡ sealed_size n → length out < n → opening w0 k0 serial n a c out ≡ (Err Room, out)
     unfolding opening
     no_room e small =
         sym
-        (gt_case n (length out) _ (Refused Room, out) small
+        (gt_case n (length out) _ (Err Room, out) small
         ∙ yes_case (eqb (length c) (sealed_size n)) _ _ (eq-eqb (length c) (sealed_size n) e)
         ∙ goes_on serial a n out _ h)
 
@@ -112,7 +109,7 @@ module _ (w0 k0 serial : ℕ) (a : List ℕ) where
         by_lt (length out) n (λ l. can_same (no_room e l) (can_refused Room five))
         (λ l. can_same (within l e) (can_yes _ can_wrote (can_refused Disagrees six)))
 
-    pub opens_only : n ≤ length out → Digits 8 c → (k : ℕ) (o : List ℕ) → opening w0 k0 serial n a c out ≡ (Wrote k, o) → SealedFrom s serial a n c
+    pub opens_only : n ≤ length out → Digits 8 c → (k : ℕ) (o : List ℕ) → opening w0 k0 serial n a c out ≡ (Ok k, o) → SealedFrom s serial a n c
     opens_only room hc k o opened =
         elim (yes_or_no (eqb (length c) (sealed_size n))) [
           | inl y ↦
@@ -135,7 +132,7 @@ module _ (w0 k0 serial : ℕ) (a : List ℕ) where
 
   -- opening what was sealed gives the message back: sealed into one memory, opened into another
   pub comes_back : (m out into : List ℕ) → Digits 8 m → Within serial a (length m) → sealed_size (length m) ≤ length out → length m ≤ length into
-      → opening w0 k0 serial (length m) a (take (sealed_size (length m)) (sealing w0 k0 serial a m out).1) into ≡ (Wrote (length m), m ++ drop (length m) into)
+      → opening w0 k0 serial (length m) a (take (sealed_size (length m)) (sealing w0 k0 serial a m out).1) into ≡ (Ok (length m), m ++ drop (length m) into)
   comes_back m out into hm h room enough =
       let x : SealedFrom s serial a (length m) (sealed_bytes s serial a m) = record { message = m; bytes = hm; size = refl; sealed = refl } in
       ap (λ (r : Answer × List ℕ). opening w0 k0 serial (length m) a (take (sealed_size (length m)) r.1) into) (seals m out h room)

@@ -4,8 +4,8 @@ use mathlib.Core.Path.{◌≡◌, sym, ◌∙◌}
 use mathlib.Core.List.{List}
 use Prim.Native.Nat.{ℕ, ◌<◌, ◌≤◌}
 use lib.ListN.{length}
-use Rattle.refusals.specs.declared.Answer.{Answer}
-use Rattle.refusals.specs.declared.Answer.TheVariants.{Refused}
+use Rattle.refusals.specs.Refusals.{Answer}
+use Rattle.std.specs.Prelude.{Err}
 use Rattle.refusals.specs.declared.Refusal.{Refusal}
 use Rattle.refusals.specs.declared.Refusal.TheVariants.{Length, Serial}
 use Rattle.words.specs.Lists.{among}
@@ -18,21 +18,21 @@ module _ (serial : ℕ) (a : List ℕ) (n : ℕ) (out : List ℕ) (x : Answer ×
   unfolding limited
   goes_on h = le_case serial serial_max _ _ h.serial ∙ le_case (length a) label_max _ _ h.label ∙ le_case n message_max _ _ h.message
 
-  pub long_message : message_max < n → (Refused Length, out) ≡ limited serial a n out x
+  pub long_message : message_max < n → (Err Length, out) ≡ limited serial a n out x
   unfolding limited
   long_message h = gt_case n message_max _ _ h
 
-  pub long_label : n ≤ message_max → label_max < length a → (Refused Length, out) ≡ limited serial a n out x
+  pub long_label : n ≤ message_max → label_max < length a → (Err Length, out) ≡ limited serial a n out x
   unfolding limited
   long_label h l = gt_case (length a) label_max _ _ l ∙ le_case n message_max _ _ h
 
-  pub high_serial : n ≤ message_max → length a ≤ label_max → serial_max < serial → (Refused Serial, out) ≡ limited serial a n out x
+  pub high_serial : n ≤ message_max → length a ≤ label_max → serial_max < serial → (Err Serial, out) ≡ limited serial a n out x
   unfolding limited
   high_serial h l s = gt_case serial serial_max _ _ s ∙ le_case (length a) label_max _ _ l ∙ le_case n message_max _ _ h
 
 module _ (serial : ℕ) (a : List ℕ) (n : ℕ) where
   abbrev pub Refuses : Refusal → Type 0
-  Refuses r = (out : List ℕ) (x : Answer × List ℕ) → limited serial a n out x ≡ (Refused r, out)
+  Refuses r = (out : List ℕ) (x : Answer × List ℕ) → limited serial a n out x ≡ (Err r, out)
 
   pub data Limited : Type 0 where
     within : Within serial a n → Limited

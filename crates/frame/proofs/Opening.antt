@@ -9,11 +9,13 @@ use native.Mathlib.Omega.{arith}
 use borrow.Author.Tests.{eq-eqb, eqb-true}
 use lib.Bits.{xor_lt}
 use lib.Dec.{eqb}
-use lib.ListN.{length, take, length-append, length-take, length-drop}
+use lib.ListN.{length, get_or, take, drop, length-append, length-take, length-drop}
 use lib.Seq.{take_all, length-take-le}
+use Rattle.std.specs.Prelude.{Ok}
+use Rattle.refusals.specs.Refusals.{written}
 use Rattle.words.specs.Digits.{word, digits, Digits, laid}
 use Rattle.words.proofs.Laws.{word_digits, word_fits, length_digits, length_laid, laid_same, laid_below, digits_append, digits_below, digits_take, digits_drop}
-use Rattle.words.specs.Lists.{sum}
+use Rattle.words.specs.Lists.{sum, upto}
 use Rattle.words.proofs.Cases.{yes_case, both_yes, by_lt}
 use Rattle.cells64.specs.Qarma64.{qarma64}
 use Rattle.cells64.proofs.Lawful64.{lawful64}
@@ -24,7 +26,7 @@ use Rattle.cipher.proofs.Rounds.{turned_below}
 use Rattle.cipher.proofs.Demands.{word_below, word_undone, word_redone}
 use Rattle.frame.specs.Blocks.{blocks, part, filled, block, tweak, opened_purpose}
 use Rattle.frame.specs.Frames.{frame_engine, tag_of, sealed_size, sealed_bytes, opened_block, opened_message, fill_right, accepted, SealedFrom}
-use Rattle.frame.proofs.Laws.{whole_filled, filled_fits, same_purpose}
+use Rattle.frame.proofs.Laws.{whole_filled, filled_fits, same_purpose, word_at}
 use Rattle.frame.proofs.Fills.{fill_none, fill_made, fill_found, fill_again, fill_off}
 use Rattle.frame.proofs.Parts.{part_take, part_laid, part_behind, part_word, same_parts}
 
@@ -51,6 +53,14 @@ sealed_length s serial a m = rw (length-append, length_laid, length_digits)
 
 pub message_length_lem : (u : Schedule) (serial n : ℕ) (c : List ℕ) → length (opened_message u serial n c) ≡ n
 message_length_lem u serial n c = length-take-le n (laid (blocks n) (opened_block u serial n c)) (rw length_laid (omega arith))
+
+-- the words of the deciphered blocks have the message's bytes, and it is written as it stands there
+pub message_put : (u : Schedule) (serial n : ℕ) (c plain : List ℕ) → take (blocks n) plain ≡ upto (blocks n) (opened_block u serial n c)
+    → take n (laid (blocks n) (λ i. get_or plain i 0)) ≡ opened_message u serial n c
+message_put u serial n c plain e = ap (take n) (laid_same (blocks n) (word_at (blocks n) (opened_block u serial n c) plain e))
+
+pub message_written : (u : Schedule) (serial n : ℕ) (c out : List ℕ) → (Ok n, opened_message u serial n c ++ drop n out) ≡ written (opened_message u serial n c) out
+message_written u serial n c out = ap (λ (k : ℕ). (Ok k, opened_message u serial n c ++ drop k out)) (sym (message_length_lem u serial n c))
 
 module _ {s : Schedule} (g : ScheduleBelow 4 s) (serial : ℕ) (a : List ℕ) where
   abbrev u : Schedule

@@ -3,6 +3,8 @@ use Rattle.std.specs.Prelude.{List, [], ◌∷◌, ◌++◌, ℕ, ◌+◌, ◌-�
 use Rattle.words.specs.Cases.{if_le}
 use Rattle.words.specs.Digits.{word}
 use Rattle.frame.specs.declared.Filled.{Filled}
+use Rattle.frame.specs.declared.Purpose.{Purpose}
+use Rattle.frame.specs.declared.Purpose.TheVariants.{WholeMessage, FilledMessage, WholeLabel, FilledLabel, WholeTag, FilledTag}
 
 -- "Message and label are each cut into blocks of 8 bytes"; "An empty input has no blocks": how many blocks n bytes have
 abbrev pub blocks : ℕ → ℕ
@@ -27,6 +29,15 @@ filling p = record { word = word 8 (filled p); added = length (fill_of (length p
 -- block i as a word, filled if it is short
 abbrev pub block : List ℕ → ℕ → ℕ
 block s i = word 8 (filled (part s i))
+
+-- "Purposes: 0 whole message block; 1 filled message block; 2 whole label block; 3 filled label block; 4 tag when the message length is a multiple of 8, zero included; 5 tag otherwise"
+abbrev pub number : Purpose → ℕ
+number WholeMessage = 0
+number FilledMessage = 1
+number WholeLabel = 2
+number FilledLabel = 3
+number WholeTag = 4
+number FilledTag = 5
 
 -- "Tweak, from the top: purpose (4 bits), serial (44 bits), index (16 bits)."
 abbrev pub tweak : ℕ → ℕ → ℕ → ℕ

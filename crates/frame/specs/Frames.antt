@@ -1,11 +1,9 @@
 -- Document 01, "Sealing and opening": the tag, the sealed bytes, and what sealing and opening answer and leave.
-use Rattle.std.specs.Prelude.{Bool, true, false, ◌≡◌, List, ◌++◌, ℕ, ◌+◌, ◌-◌, ◌*◌, ◌/◌, ◌%◌, ◌^◌, ◌≤◌, eqb, length, take, drop}
+use Rattle.std.specs.Prelude.{Bool, true, false, ◌≡◌, List, ◌++◌, ℕ, ◌+◌, ◌-◌, ◌*◌, ◌/◌, ◌%◌, ◌^◌, ◌≤◌, eqb, length, take, drop, Err}
 use Rattle.words.specs.Cases.{if_le, if_yes}
 use Rattle.words.specs.Digits.{◌⊕◌, word, digits, Digits, laid}
-use Rattle.refusals.specs.declared.Answer.{Answer}
-use Rattle.refusals.specs.declared.Answer.TheVariants.{Refused}
+use Rattle.refusals.specs.Refusals.{Answer, room_for, written, giving}
 use Rattle.refusals.specs.declared.Refusal.TheVariants.{Length, Serial, SealedSize, Disagrees}
-use Rattle.refusals.specs.Refusals.{room_for, written, giving}
 use Rattle.words.specs.Lists.{sum}
 use Rattle.cells64.specs.Qarma64.{qarma64}
 use Rattle.cipher.specs.Engine.{key_schedule, turned}
@@ -56,9 +54,9 @@ limited serial a n out x =
     (if_le (length a) label_max
     (if_le serial serial_max
     x
-    (Refused Serial, out))
-    (Refused Length, out))
-    (Refused Length, out)
+    (Err Serial, out))
+    (Err Length, out))
+    (Err Length, out)
 
 -- Document 01, "What a refused caller gets": "Sealing can give 2, 3, 5", in this order; else it writes the sealed bytes
 unfoldable pub sealing : ℕ → ℕ → ℕ → List ℕ → List ℕ → List ℕ → Answer × List ℕ
@@ -91,8 +89,8 @@ opening w0 k0 serial n a c out =
     (room_for n out
     (if_yes (accepted (key_schedule qarma64 w0 k0) serial a n c)
     (written (opened_message (turned qarma64 (key_schedule qarma64 w0 k0)) serial n c) out)
-    (Refused Disagrees, out)))
-    (Refused SealedSize, out))
+    (Err Disagrees, out)))
+    (Err SealedSize, out))
 
 -- Demand 2 for frames (docs/CONTRACTS.md): inputs inside the limits
 pub record Within (number : ℕ) (a : List ℕ) (n : ℕ) : Type 0 where

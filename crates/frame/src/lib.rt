@@ -1,17 +1,19 @@
 // Frames: sealing and opening, box 1 and r = 7.
 #![tactic(auto)]
 
-ghost use Rattle.std.specs.Prelude.{◌≡◌, ◌+◌, ◌*◌, ◌/◌, ◌^◌, ◌<◌, ◌≤◌, ◌++◌, eqb, length, get_or, take, drop};
+ghost use Rattle.std.specs.Prelude.{◌≡◌, ◌+◌, ◌*◌, ◌/◌, ◌^◌, ◌<◌, ◌≤◌, ◌++◌, IfOk, MatchResult, eqb, length, get_or, take, drop};
 ghost use Rattle.words.specs.Digits.{laid};
 ghost use Rattle.words.specs.Lists.{sum, upto};
-ghost use Rattle.cipher.specs.Engine.{ScheduleBelow, turned};
-ghost use Rattle.frame.specs.Blocks.{blocks, part, filling, block, tweak, opened_purpose, tag_purpose};
-ghost use Rattle.frame.specs.Frames.{frame_engine, label_sum, tag_of, sealed_size, sealed_bytes, sealing, opened_block, fill_right, accepted, opening};
-ghost use Rattle.frame.specs.Workings.{enciphered_block, blocks_put};
+ghost use Rattle.cipher.specs.Engine.{ScheduleBelow, key_schedule, turned};
+ghost use Rattle.frame.specs.Blocks.{number, blocks, part, filling, block, tweak, opened_purpose, tag_purpose};
+ghost use Rattle.frame.specs.Frames.{frame_engine, label_sum, tag_of, sealed_size, sealed_bytes, sealing, opened_block, fill_right, accepted, opening, Within};
+ghost use Rattle.frame.specs.Workings.{enciphered_block, blocks_put, Refuses};
 ghost use Rattle.cells64.specs.Qarma64.{qarma64};
 
-use cipher::Schedule;
-use refusals::{Answer, Refusal};
+use cells::Sbox;
+use cipher::{Key, Schedule};
+use cipher64::Qarma64;
+use refusals::Refusal;
 
 // The limits of a frame: bytes of a message, bytes of a label, and the highest serial.
 const MESSAGE_MAX: usize = 1024;
@@ -19,6 +21,17 @@ const MESSAGE_MAX: usize = 1024;
 const LABEL_MAX: usize = 32;
 
 const SERIAL_MAX: u64 = 0xFFFFFFFFFFF;
+
+// What the engine runs on, in the order of the purposes' numbers.
+#[derive(Clone, Copy)]
+enum Purpose {
+    WholeMessage,
+    FilledMessage,
+    WholeLabel,
+    FilledLabel,
+    WholeTag,
+    FilledTag,
+}
 
 // How many sealed bytes a message of n bytes has.
 pub fn sealed_size(n: usize) -> usize
@@ -29,29 +42,32 @@ pub fn sealed_size(n: usize) -> usize
 }
 
 // The purpose of the tag of a message of n bytes.
-fn tag_purpose(n: usize) -> u64
-    ensures { (result ≡ tag_purpose n) × (result < 6) }
+fn tag_purpose(n: usize) -> Purpose
+    ensures { number result ≡ tag_purpose n }
 {
     if n % 8 == 0 {
-        return 4;
+        return Purpose::WholeTag;
     }
-    5
+    Purpose::FilledTag
+}
+
+// The purpose of block i of a message of n bytes that is to be opened: there is no plain block yet.
+fn opened_purpose(n: usize, i: usize) -> Purpose
+    requires { i < 128 }
+    ensures { number result ≡ opened_purpose n i }
+{
+    if n < i * 8 + 8 {
+        return Purpose::FilledMessage;
+    }
+    Purpose::WholeMessage
 }
 
 // A tweak: purpose, serial, index.
-fn tweak_of(purpose: u64, serial: u64, index: u64) -> u64
-    requires { (purpose < 16) × ((serial < 2 ^ 44) × (index < 2 ^ 16)) }
-    ensures { result ≡ tweak purpose serial index }
+fn tweak_of(purpose: Purpose, serial: u64, index: u64) -> u64
+    requires { (serial < 2 ^ 44) × (index < 2 ^ 16) }
+    ensures { result ≡ tweak (number purpose) serial index }
 {
-    purpose * 0x1000000000000000 + serial * 0x10000 + index
-}
-
-// The engine with box 1 and r = 7: under a schedule it enciphers a block, under the turned one it deciphers it.
-fn engine(s: Schedule, t: u64, p: u64) -> u64
-    requires { ScheduleBelow 4 s }
-    ensures { result ≡ frame_engine s t p }
-{
-    cells64::word(cipher64::engine_on_cells(s, 1, 7, cells64::of(t), cells64::of(p)))
+    purpose as u64 * 0x1000000000000000 + serial * 0x10000 + index
 }
 
 // What filling answers: the word, and how many bytes were added, 0 to 7.
@@ -78,7 +94,7 @@ fn fill(part: &[u8]) -> Filled
 
 // The same for block i of some bytes.
 fn fill_block(bytes: &[u8], i: usize) -> Filled
-    requires { (length bytes.now ≤ 1024) × (i < blocks (length bytes.now)) }
+    requires { i < blocks (length bytes.now) }
     ensures { result ≡ filling (part bytes.now i) }
 {
     let at = i * 8;
@@ -95,106 +111,161 @@ struct Enciphered {
     to: u64,
 }
 
-// Block i of some bytes enciphered, by the purpose of a whole one. Here it is filled, and its purpose chosen: from how many bytes that added, and from nothing else.
-fn seal_block(s: Schedule, whole: u64, serial: u64, bytes: &[u8], i: usize) -> Enciphered
-    requires { (ScheduleBelow 4 s × (whole < 4)) × ((serial < 2 ^ 44) × ((length bytes.now ≤ 1024) × (i < blocks (length bytes.now)))) }
-    ensures { result ≡ enciphered_block s whole serial bytes.now i }
-{
-    let block = fill_block(bytes, i);
-    let purpose = if block.added == 0 { whole } else { whole + 1 };
-    let w = engine(s, tweak_of(purpose, serial, i as u64), block.word);
-    Enciphered {
-        from: block.word,
-        to: w,
+// What one frame is sealed or opened with: a schedule, and a serial, a label and a message of n bytes inside the limits.
+#[derive(Clone, Copy)]
+struct Sealer<'a> {
+    schedule: Schedule,
+    serial: u64,
+    label: &'a [u8],
+    n: usize,
+    ghost below: { ScheduleBelow 4 schedule },
+    ghost within: { Within serial label.now n },
+}
+
+impl Sealer<'_> {
+    // The sealer of a key, or refusal 2 or 3.
+    fn of<'a>(key: Key<u64>, serial: u64, label: &'a [u8], n: usize) -> Result<Sealer<'a>, Refusal>
+        ensures limits { MatchResult result (λ x. Within serial label.now n) (λ r. Refuses serial label.now n r) }
+        ensures fields { IfOk result (λ x. (x.schedule ≡ key_schedule qarma64 key.w0 key.k0) × (x.serial ≡ serial) × (x.label.now ≡ label.now) × (x.n ≡ n)) }
+    {
+        if MESSAGE_MAX < n {
+            return Err(Refusal::Length);
+        }
+        if LABEL_MAX < label.len() {
+            return Err(Refusal::Length);
+        }
+        if SERIAL_MAX < serial {
+            return Err(Refusal::Serial);
+        }
+        Ok(Sealer {
+            schedule: cipher::key_schedule::<Qarma64>(key),
+            serial,
+            label,
+            n,
+        })
     }
-}
 
-// The sum of the enciphered blocks of a label.
-fn sum_label(s: Schedule, serial: u64, label: &[u8]) -> u64
-    requires { ScheduleBelow 4 s × ((serial < 2 ^ 44) × (length label.now ≤ 32)) }
-    ensures { result ≡ label_sum s serial label.now }
-{
-    let n = (label.len() + 7) / 8;
-    let mut total = 0;
-    let mut i = 0;
-    while i < n {
-        let block = seal_block(s, 2, serial, label, i);
-        total ^= block.to;
-        i += 1;
+    // The same with the schedule turned: its engine deciphers.
+    fn turned(self) -> Self
+        ensures schedule { result.schedule ≡ turned qarma64 self.entry.schedule }
+        ensures serial { result.serial ≡ self.entry.serial }
+        ensures n { result.n ≡ self.entry.n }
+    {
+        Sealer {
+            schedule: cipher::turn::<Qarma64>(self.schedule),
+            serial: self.serial,
+            label: self.label,
+            n: self.n,
+        }
     }
-    total
-}
 
-// The tag of a message of n bytes, from the sum of its blocks.
-fn tag(s: Schedule, serial: u64, label: &[u8], n: usize, message_sum: u64) -> u64
-    requires { ScheduleBelow 4 s × ((serial < 2 ^ 44) × ((length label.now ≤ 32) × (n ≤ 1024))) }
-    ensures { result ≡ tag_of s serial label.now n message_sum }
-{
-    let index = (n + 7) / 8;
-    let t = tweak_of(tag_purpose(n), serial, index as u64);
-    engine(s, t, message_sum) ^ sum_label(s, serial, label)
-}
+    // The engine with box 1 and r = 7, on a block under the tweak of a purpose and an index.
+    fn engine(self, purpose: Purpose, index: usize, block: u64) -> u64
+        requires { index < 2 ^ 16 }
+        ensures { result ≡ frame_engine self.entry.schedule (tweak (number purpose) self.entry.serial index) block }
+    {
+        let t = tweak_of(purpose, self.serial, index as u64);
+        let cells = cipher::engine_on_cells::<Qarma64>(
+            self.schedule,
+            Sbox::Sigma1,
+            7,
+            cells64::of(t),
+            cells64::of(block),
+        );
+        cells64::word(cells)
+    }
 
-// Writes each enciphered block of a message into its own place of out, and answers the sum of the blocks.
-fn put_blocks(s: Schedule, serial: u64, message: &[u8], out: &mut [u8]) -> u64
-    requires { (ScheduleBelow 4 s × (serial < 2 ^ 44)) × ((length message.now ≤ 1024) × (blocks (length message.now) * 8 ≤ length out.old)) }
-    ensures { (result, out.new) ≡ blocks_put s serial message.now out.old }
-{
-    let n = (message.len() + 7) / 8;
-    let mut total = 0;
-    let mut i = 0;
-    while i < n {
+    // Block i of some bytes enciphered. Here it is filled, and its purpose chosen: from how many bytes that added, and from nothing else.
+    fn seal_block(self, whole: Purpose, filled: Purpose, bytes: &[u8], i: usize) -> Enciphered
+        requires { ((number filled ≡ number whole + 1) × (length bytes.now ≤ 1024)) × (i < blocks (length bytes.now)) }
+        ensures { result ≡ enciphered_block self.entry.schedule (number whole) self.entry.serial bytes.now i }
+    {
+        let block = fill_block(bytes, i);
+        let purpose = if block.added == 0 { whole } else { filled };
+        let w = self.engine(purpose, i, block.word);
+        Enciphered {
+            from: block.word,
+            to: w,
+        }
+    }
+
+    // The sum of the enciphered blocks of the label.
+    fn sum_label(self) -> u64
+        ensures { result ≡ label_sum self.entry.schedule self.entry.serial self.entry.label.now }
+    {
+        let mut total = 0;
+        for i in 0..(self.label.len() + 7) / 8 {
+            let block = self.seal_block(Purpose::WholeLabel, Purpose::FilledLabel, self.label, i);
+            total ^= block.to;
+        }
+        total
+    }
+
+    // The tag, from the sum of the message's blocks.
+    fn tag(self, message_sum: u64) -> u64
+        ensures { result ≡ tag_of self.entry.schedule self.entry.serial self.entry.label.now self.entry.n message_sum }
+    {
+        let index = (self.n + 7) / 8;
+        self.engine(tag_purpose(self.n), index, message_sum) ^ self.sum_label()
+    }
+
+    // Writes each enciphered block of the message into its own place of out, and answers the sum of the blocks.
+    fn put_blocks(self, message: &[u8], out: &mut [u8]) -> u64
+        requires { (length message.now ≡ self.n) × (blocks (length message.now) * 8 ≤ length out.old) }
+        ensures { (result, out.new) ≡ blocks_put self.entry.schedule self.entry.serial message.now out.old }
+    {
+        let mut total = 0;
+        for i in 0..(message.len() + 7) / 8 {
+            let at = i * 8;
+            let block = self.seal_block(Purpose::WholeMessage, Purpose::FilledMessage, message, i);
+            words::write(&mut out[at..at + 8], 8, block.to);
+            total ^= block.from;
+        }
+        total
+    }
+
+    // Writes the sealed bytes of the message into the first bytes of out.
+    fn put_sealed(self, message: &[u8], out: &mut [u8])
+        requires { (length message.now ≡ self.n) × (sealed_size (length message.now) ≤ length out.old) }
+        ensures { out.new ≡ sealed_bytes self.entry.schedule self.entry.serial self.entry.label.now message.now ++ drop (sealed_size (length message.now)) out.old }
+    {
+        let total = self.put_blocks(message, out);
+        let behind = (message.len() + 7) / 8 * 8;
+        words::write(&mut out[behind..behind + 8], 8, self.tag(total));
+    }
+
+    // Block i of the sealed bytes, deciphered by a turned schedule.
+    fn open_block(self, sealed: &[u8], i: usize) -> u64
+        requires { (i < blocks self.n) × (i * 8 + 8 ≤ length sealed.now) }
+        ensures { result ≡ opened_block self.entry.schedule self.entry.serial self.entry.n sealed.now i }
+    {
         let at = i * 8;
-        let block = seal_block(s, 0, serial, message, i);
-        words::write(&mut out[at..at + 8], 8, block.to);
-        total ^= block.from;
-        i += 1;
+        let block = words::read(&sealed[at..at + 8], 8);
+        self.engine(opened_purpose(self.n, i), i, block)
     }
-    total
-}
 
-// Writes the sealed bytes of a message into the first bytes of out.
-fn put_sealed(s: Schedule, serial: u64, label: &[u8], message: &[u8], out: &mut [u8])
-    requires { (ScheduleBelow 4 s × (serial < 2 ^ 44)) × ((length label.now ≤ 32) × ((length message.now ≤ 1024) × (sealed_size (length message.now) ≤ length out.old))) }
-    ensures { out.new ≡ sealed_bytes s serial label.now message.now ++ drop (sealed_size (length message.now)) out.old }
-{
-    let total = put_blocks(s, serial, message, out);
-    let behind = (message.len() + 7) / 8 * 8;
-    let w = tag(s, serial, label, message.len(), total);
-    words::write(&mut out[behind..behind + 8], 8, w);
-}
-
-// The purpose of block i of a message of n bytes that is to be opened: there is no plain block yet.
-fn opened_purpose(n: usize, i: usize) -> u64
-    requires { i < 128 }
-    ensures { (result ≡ opened_purpose n i) × (result < 2) }
-{
-    if n < i * 8 + 8 {
-        return 1;
+    // Every block of the sealed bytes, deciphered.
+    fn open_blocks(self, sealed: &[u8], plain: &mut [u64])
+        requires { (blocks self.n * 8 ≤ length sealed.now) × (blocks self.n ≤ length plain.old) }
+        ensures { take (blocks self.entry.n) plain.new ≡ upto (blocks self.entry.n) (opened_block self.entry.schedule self.entry.serial self.entry.n sealed.now) }
+    {
+        for i in 0..(self.n + 7) / 8 {
+            plain[i] = self.open_block(sealed, i);
+        }
     }
-    0
-}
 
-// Block i of the sealed bytes of a message of n bytes, deciphered under the turned schedule.
-fn open_block(u: Schedule, serial: u64, n: usize, sealed: &[u8], i: usize) -> u64
-    requires { (ScheduleBelow 4 u × (serial < 2 ^ 44)) × ((n ≤ 1024) × ((i < blocks n) × (i * 8 + 8 ≤ length sealed.now))) }
-    ensures { result ≡ opened_block u serial n sealed.now i }
-{
-    let t = tweak_of(opened_purpose(n, i), serial, i as u64);
-    let at = i * 8;
-    engine(u, t, words::read(&sealed[at..at + 8], 8))
-}
-
-// Every block of the sealed bytes of a message of n bytes, deciphered.
-fn open_blocks(u: Schedule, serial: u64, n: usize, sealed: &[u8], plain: &mut [u64])
-    requires { (ScheduleBelow 4 u × (serial < 2 ^ 44)) × ((n ≤ 1024) × ((blocks n * 8 ≤ length sealed.now) × (blocks n ≤ length plain.old))) }
-    ensures { take (blocks n) plain.new ≡ upto (blocks n) (opened_block u serial n sealed.now) }
-{
-    let b = (n + 7) / 8;
-    let mut i = 0;
-    while i < b {
-        plain[i] = open_block(u, serial, n, sealed, i);
-        i += 1;
+    // Whether the tag agrees, and the fill: plain has the deciphered blocks. Both are reckoned, and one comparison decides.
+    fn agrees(self, sealed: &[u8], plain: &[u64]) -> bool
+        requires size { length sealed.now ≡ sealed_size self.n }
+        requires room { blocks self.n ≤ length plain.now }
+        requires opened { take (blocks self.n) plain.now ≡ upto (blocks self.n) (opened_block (turned qarma64 self.schedule) self.serial self.n sealed.now) }
+        ensures { result ≡ accepted self.entry.schedule self.entry.serial self.entry.label.now self.entry.n sealed.now }
+    {
+        let b = (self.n + 7) / 8;
+        let at = b * 8;
+        let t = self.tag(sum_words(&plain[..b]));
+        let tag_difference = t ^ words::read(&sealed[at..at + 8], 8);
+        fill_difference(self.n, plain) | tag_difference == 0
     }
 }
 
@@ -203,17 +274,15 @@ fn sum_words(list: &[u64]) -> u64
     ensures { result ≡ sum (length list.now) (λ i. get_or list.now i 0) }
 {
     let mut total = 0;
-    let mut i = 0;
-    while i < list.len() {
-        total ^= list[i];
-        i += 1;
+    for w in list {
+        total ^= *w;
     }
     total
 }
 
 // Writes the first n bytes of some words into the first bytes of out.
 fn put_message(n: usize, plain: &[u64], out: &mut [u8])
-    requires { ((n ≤ 1024) × (blocks n ≤ length plain.now)) × (n ≤ length out.old) }
+    requires { (blocks n ≤ length plain.now) × (n ≤ length out.old) }
     ensures { out.new ≡ take n (laid (blocks n) (λ i. get_or plain.now i 0)) ++ drop n out.old }
 {
     let whole = n / 8;
@@ -238,72 +307,49 @@ fn fill_difference(n: usize, plain: &[u64]) -> u64
     plain[n / 8] % (1u64 << (64 - r * 8)) ^ 1u64 << (63 - r * 8)
 }
 
-// Whether the tag agrees, and the fill: plain has the deciphered blocks. Both are reckoned, and one comparison decides.
-fn agrees(s: Schedule, serial: u64, label: &[u8], n: usize, sealed: &[u8], plain: &[u64]) -> bool
-    requires { ((ScheduleBelow 4 s × (serial < 2 ^ 44)) × ((length label.now ≤ 32) × (n ≤ 1024))) × ((length sealed.now ≡ sealed_size n) × ((blocks n ≤ length plain.now) × (take (blocks n) plain.now ≡ upto (blocks n) (opened_block (turned qarma64 s) serial n sealed.now)))) }
-    ensures { result ≡ accepted s serial label.now n sealed.now }
-{
-    let b = (n + 7) / 8;
-    let at = b * 8;
-    let t = tag(s, serial, label, n, sum_words(&plain[..b]));
-    let tag_difference = t ^ words::read(&sealed[at..at + 8], 8);
-    fill_difference(n, plain) | tag_difference == 0
-}
-
 // Seals a message under a key, a serial and a label.
-pub fn seal(w0: u64, k0: u64, serial: u64, label: &[u8], message: &[u8], out: &mut [u8]) -> Answer
-    ensures { (result, out.new) ≡ sealing w0 k0 serial label.now message.now out.old }
+pub fn seal(
+    key: Key<u64>,
+    serial: u64,
+    label: &[u8],
+    message: &[u8],
+    out: &mut [u8],
+) -> Result<u32, Refusal>
+    ensures { (result, out.new) ≡ sealing key.w0 key.k0 serial label.now message.now out.old }
 {
-    if MESSAGE_MAX < message.len() {
-        return Answer::Refused(Refusal::Length);
-    }
-    if LABEL_MAX < label.len() {
-        return Answer::Refused(Refusal::Length);
-    }
-    if SERIAL_MAX < serial {
-        return Answer::Refused(Refusal::Serial);
-    }
+    let sealer = Sealer::of(key, serial, label, message.len())?;
     let size = sealed_size(message.len());
     if out.len() < size {
-        return Answer::Refused(Refusal::Room);
+        return Err(Refusal::Room);
     }
-    put_sealed(cipher64::key_schedule(w0, k0), serial, label, message, out);
-    Answer::Wrote { count: size as u32 }
+    sealer.put_sealed(message, out);
+    Ok(size as u32)
 }
 
 // Opens the sealed bytes of a message of n bytes under a key, a serial and a label.
 pub fn open(
-    w0: u64,
-    k0: u64,
+    key: Key<u64>,
     serial: u64,
     n: usize,
     label: &[u8],
     sealed: &[u8],
     out: &mut [u8],
-) -> Answer
-    ensures { (result, out.new) ≡ opening w0 k0 serial n label.now sealed.now out.old }
+) -> Result<u32, Refusal>
+    ensures { (result, out.new) ≡ opening key.w0 key.k0 serial n label.now sealed.now out.old }
 {
-    if MESSAGE_MAX < n {
-        return Answer::Refused(Refusal::Length);
-    }
-    if LABEL_MAX < label.len() {
-        return Answer::Refused(Refusal::Length);
-    }
-    if SERIAL_MAX < serial {
-        return Answer::Refused(Refusal::Serial);
-    }
+    let sealer = Sealer::of(key, serial, label, n)?;
     if sealed.len() != sealed_size(n) {
-        return Answer::Refused(Refusal::SealedSize);
+        return Err(Refusal::SealedSize);
     }
     if out.len() < n {
-        return Answer::Refused(Refusal::Room);
+        return Err(Refusal::Room);
     }
-    let s = cipher64::key_schedule(w0, k0);
+    // Fixed memory for the most blocks that a message has; as many as this one has are used.
     let mut plain = [0u64; 128];
-    open_blocks(cipher64::turn(s), serial, n, sealed, &mut plain);
-    if !agrees(s, serial, label, n, sealed, &plain) {
-        return Answer::Refused(Refusal::Disagrees);
+    sealer.turned().open_blocks(sealed, &mut plain);
+    if !sealer.agrees(sealed, &plain) {
+        return Err(Refusal::Disagrees);
     }
     put_message(n, &plain, out);
-    Answer::Wrote { count: n as u32 }
+    Ok(n as u32)
 }

@@ -3,7 +3,7 @@ use mathlib.Core.Path.{◌≡◌, sym, ap, ◌∙◌}
 use mathlib.Core.List.{List}
 use Prim.Native.Nat.{ℕ}
 use Rattle.words.proofs.Decided.{Decided}
-use Rattle.line.specs.declared.Reading.{Reading}
+use Rattle.line.specs.Line.{Reading}
 use Rattle.line.proofs.Places.{reads_one}
 use Rattle.kkurimyeot.specs.Calls.{returning, reading_given, GivesReading}
 use Rattle.kkurimyeot.proofs

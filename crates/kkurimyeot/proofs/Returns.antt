@@ -6,9 +6,8 @@ use Prim.Native.Nat.{ℕ, ◌*◌, ◌≤◌, ◌<◌}
 use lib.ListN.{length, get_or, drop}
 use Rattle.words.specs.Digits.{laid}
 use Rattle.words.proofs.Laws.{length_laid}
-use Rattle.refusals.specs.Refusals.{returned_of}
-use Rattle.refusals.specs.declared.Answer.{Answer}
-use Rattle.refusals.specs.declared.Answer.TheVariants.{Wrote, Refused}
+use Rattle.refusals.specs.Refusals.{returned_of, Answer}
+use Rattle.std.specs.Prelude.{Ok, Err}
 use Rattle.refusals.specs.declared.Refusal.TheVariants.{Room}
 use Rattle.words.specs.Lists.{among}
 use Rattle.refusals.proofs.Answers.{Can, can_give, gives, gives_none}
@@ -19,11 +18,11 @@ returns_lem {o = o} e f = ap (λ (k : ℕ). (k, o)) e ∙ ap returning f
 
 -- words to lent memory: with room for them, without, and what can be refused
 module _ (ws out : List ℕ) where
-  pub words_fit : length ws * 8 ≤ length out → (Wrote (length ws * 8), laid (length ws) (λ i. get_or ws i 0) ++ drop (length ws * 8) out) ≡ words_given ws out
+  pub words_fit : length ws * 8 ≤ length out → (Ok (length ws * 8), laid (length ws) (λ i. get_or ws i 0) ++ drop (length ws * 8) out) ≡ words_given ws out
   unfolding words_given
   words_fit room = gives _ out _ (length_laid (length ws) (λ i. get_or ws i 0)) room
 
-  pub words_short : length out < length ws * 8 → (Refused Room, out) ≡ words_given ws out
+  pub words_short : length out < length ws * 8 → (Err Room, out) ≡ words_given ws out
   unfolding words_given
   words_short short = gives_none _ out _ (length_laid (length ws) (λ i. get_or ws i 0)) short
 

@@ -1,17 +1,17 @@
 -- The bytes that a line's digits stand for.
 use Prim.Native.Nat.{ℕ, zero, suc, ◌+◌, ◌*◌, ◌≤◌}
-use mathlib.Core.Path.{◌≡◌, refl, sym, ap, ap₂, subst, ◌∙◌}
+use mathlib.Core.Path.{◌≡◌, refl, sym, ap, ap₂, ◌∙◌}
 use mathlib.Core.List.{List, [], ◌∷◌}
 use native.Mathlib.Omega.{arith}
 use lib.ListN.{length, get_or, take, length-take}
-use lib.Seq.{take_all, length-take-le}
+use lib.Seq.{take_all}
 use Rattle.words.specs.Digits.{word}
 use Rattle.words.specs.Lists.{upto}
 use Rattle.words.proofs.Laws.{word_append}
 use Rattle.cells.proofs.Upto.{upto_same}
-use Rattle.frame.proofs.Laws.{upto_more}
+use Rattle.frame.proofs.Laws.{upto_more, upto_turn}
 use Rattle.line.specs.Reader.{hex_value, number_at, bytes_at}
-use Rattle.line.specs.Workings.{FieldsRead}
+use Rattle.line.proofs.Shape.{num_small}
 
 -- the number of n digits from place a on is the word of their values
 pub number_word : (s : List ℕ) (a n : ℕ) → number_at s a n ≡ word 4 (upto n (λ i. hex_value (get_or s (a + i) 48)))
@@ -36,6 +36,5 @@ bytes_read s out a i n e l h = sym (take_all i out (omega arith)) ∙ h ∙ ap (
 pub taken_most : (k n : ℕ) (l : List ℕ) → k ≤ n → length (take k l) ≤ n
 taken_most k n l h = simp length-take (omega arith)
 
-pub fields_taken : {s : List ℕ} {l k a b : ℕ} (u v : List ℕ) → l ≤ length u → k ≤ length v → FieldsRead s l k a b → FieldsRead s (length (take l u)) (length (take k v)) a b
-fields_taken {s} {l} {k} {a} {b} u v hu hv h =
-    subst (λ (x : ℕ). FieldsRead s x (length (take k v)) a b) (sym (length-take-le l u hu)) (subst (λ (y : ℕ). FieldsRead s l y a b) (sym (length-take-le k v hv)) h)
+-- for the loop that reads bytes
+pub ruleset turns = (upto_turn, bytes_read, num_small)

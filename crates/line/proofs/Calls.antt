@@ -5,10 +5,9 @@ use mathlib.Core.List.{List}
 use native.Mathlib.Omega.{arith}
 use lib.ListN.{length, take}
 use lib.Seq.{take_at}
-use Rattle.refusals.specs.declared.Answer.{Answer}
-use Rattle.refusals.specs.declared.Answer.TheVariants.{Wrote, Refused}
+use Rattle.refusals.specs.Refusals.{Answer, giving}
+use Rattle.std.specs.Prelude.{Ok, Err}
 use Rattle.refusals.specs.declared.Refusal.{Refusal}
-use Rattle.refusals.specs.Refusals.{giving}
 use Rattle.refusals.proofs.Answers.{not_both}
 use Rattle.cells64.specs.Qarma64.{qarma64}
 use Rattle.cipher.specs.Engine.{key_schedule}
@@ -21,29 +20,28 @@ use Rattle.line.specs.Calls.{frame_of, writing}
 
 module _ (w0 k0 serial : ℕ) (a m : List ℕ) where
   -- what the limits refuse, sealing and writing refuse alike
-  limited_sealing : (r : Refusal) → Refuses serial a (length m) r → (d : List ℕ) → sealing w0 k0 serial a m d ≡ (Refused r, d)
+  limited_sealing : (r : Refusal) → Refuses serial a (length m) r → (d : List ℕ) → sealing w0 k0 serial a m d ≡ (Err r, d)
   unfolding sealing
   limited_sealing r f d = f d _
 
-  limited_writing : (r : Refusal) → Refuses serial a (length m) r → (out : List ℕ) → writing w0 k0 serial a m out ≡ (Refused r, out)
+  limited_writing : (r : Refusal) → Refuses serial a (length m) r → (out : List ℕ) → writing w0 k0 serial a m out ≡ (Err r, out)
   unfolding writing
   limited_writing r f out = f out _
 
   -- sealing answered that it wrote k bytes, and left o
-  pub record Wrote-sealed (d : List ℕ) (k : ℕ) (o : List ℕ) : Type 0 where
+  pub record Ok-sealed (d : List ℕ) (k : ℕ) (o : List ℕ) : Type 0 where
     pub within : Within serial a (length m)
     pub size : k ≡ sealed_size (length m)
     pub bytes : take k o ≡ sealed_bytes (key_schedule qarma64 w0 k0) serial a m
 
-  pub sealing_wrote : (d : List ℕ) → 1032 ≤ length d → (k : ℕ) (o : List ℕ) (r : Answer) → r ≡ Wrote k → (r, o) ≡ sealing w0 k0 serial a m d → Wrote-sealed d k o
-  sealing_wrote d h k o r q s =
-      let e : (Wrote k, o) ≡ sealing w0 k0 serial a m d = ap (λ (x : Answer). (x, o)) (sym q) ∙ s in
+  pub sealing_wrote : (d : List ℕ) → 1032 ≤ length d → (k : ℕ) (o : List ℕ) → (Ok k, o) ≡ sealing w0 k0 serial a m d → Ok-sealed d k o
+  sealing_wrote d h k o e =
       elim (limits serial a (length m)) [
         | refused r f ↦ absurd (not_both (e ∙ limited_sealing r f d))
         | within w ↦
             let room : sealed_size (length m) ≤ length d = omega (arith, w.message) in
             let made = e ∙ seals w0 k0 serial a m d w room in
-            let first : Wrote k ≡ Wrote (sealed_size (length m)) = ap (λ (x : Answer × List ℕ). x.0) made in
+            let first : Ok k ≡ Ok (sealed_size (length m)) = ap (λ (x : Answer × List ℕ). x.0) made in
             let size : k ≡ sealed_size (length m) = cc in
             record {
               within = w;
@@ -52,12 +50,11 @@ module _ (w0 k0 serial : ℕ) (a m : List ℕ) where
             }
       ]
 
-  pub sealing_refused : (d : List ℕ) → 1032 ≤ length d → (r : Refusal) (o : List ℕ) (x : Answer) → x ≡ Refused r → (x, o) ≡ sealing w0 k0 serial a m d → (out : List ℕ) → (Refused r, out) ≡ writing w0 k0 serial a m out
-  sealing_refused d h r o x q s out =
-      let e : (Refused r, o) ≡ sealing w0 k0 serial a m d = ap (λ (y : Answer). (y, o)) (sym q) ∙ s in
+  pub sealing_refused : (d : List ℕ) → 1032 ≤ length d → (r : Refusal) (o : List ℕ) → (Err r, o) ≡ sealing w0 k0 serial a m d → (out : List ℕ) → (Err r, out) ≡ writing w0 k0 serial a m out
+  sealing_refused d h r o e out =
       elim (limits serial a (length m)) [
         | refused q f ↦
-            let first : Refused r ≡ Refused q = ap (λ (x : Answer × List ℕ). x.0) (e ∙ limited_sealing q f d) in
+            let first : Err r ≡ Err q = ap (λ (x : Answer × List ℕ). x.0) (e ∙ limited_sealing q f d) in
             ap (λ (x : Answer). (x, out)) first ∙ sym (limited_writing q f out)
         | within w ↦
             let room : sealed_size (length m) ≤ length d = omega (arith, w.message) in

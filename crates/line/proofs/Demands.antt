@@ -6,7 +6,7 @@ use native.Mathlib.Omega.{arith}
 use lib.ListN.{length, drop, length-append}
 use Rattle.words.specs.Digits.{Digits, none, more}
 use Rattle.words.proofs.Cases.{by_lt}
-use Rattle.refusals.specs.declared.Answer.TheVariants.{Wrote, Refused}
+use Rattle.std.specs.Prelude.{Ok, Err}
 use Rattle.refusals.specs.declared.Refusal.TheVariants.{Line}
 use Rattle.refusals.specs.Refusals.{giving}
 use Rattle.refusals.proofs.Answers.{not_both, Can, can_refused, can_same, can_give, gives}
@@ -16,12 +16,10 @@ use Rattle.frame.specs.Frames.{sealed_size, sealed_bytes, opening, SealedFrom}
 use Rattle.frame.proofs.Opening.{sealed_length, sealed_below}
 use Rattle.frame.proofs.Limits.{can_limited}
 use Rattle.frame.proofs.Demands.{opens, opens_only, no_room, can_five_six}
-use Rattle.line.specs.Line.{hex_digits, hex, Frame, Limits, LineOf, line_of, GoodLine, Place, fields_of, Reads, fields, refused}
+use Rattle.line.specs.Line.{hex_digits, hex, Frame, Limits, LineOf, line_of, GoodLine, Place, Reading, not_line, placed, fields_of, Reads, fields, refused}
 use Rattle.line.specs.Reader.{number_at, bytes_at, reading}
 use Rattle.line.specs.Calls.{frame_of, writing, opening_as, opening_line, WrittenFrom}
 use Rattle.line.specs.Workings.{line_size}
-use Rattle.line.specs.declared.Reading.{Reading}
-use Rattle.line.specs.declared.Reading.TheVariants.{Fields, NotLine}
 use Rattle.line.proofs.Hex.{num_digits, length_hex, length_hex_digits, shown, line_shown}
 use Rattle.line.proofs.Places.{reads_reading, reading_reads}
 use Rattle.line.proofs.Writing.{line_length_lem}
@@ -68,9 +66,9 @@ passes_on w0 k0 s out f l =
     (ap (λ (z : List ℕ). bytes_at z (20 + 2 * length f.label) (sealed_size f.message_length)) l.line ∙ sealed_is f l.limits)
 
 -- and another line is refused, 7, with its place
-pub not_a_line : (w0 k0 : ℕ) (s out : List ℕ) (k : ℕ) → Place s k → opening_line w0 k0 s out ≡ (Refused (Line k), out)
+pub not_a_line : (w0 k0 : ℕ) (s out : List ℕ) (k : ℕ) → Place s k → opening_line w0 k0 s out ≡ (Err (Line k), out)
 unfolding opening_line
-not_a_line w0 k0 s out k p = ap (λ (r : Reading). opening_as w0 k0 s r out) (sym (reads_reading s (NotLine k) (refused k p)))
+not_a_line w0 k0 s out k p = ap (λ (r : Reading). opening_as w0 k0 s r out) (sym (reads_reading s (not_line k) (refused k p)))
 
 -- "A line is 37 to 2,149 bytes with its end."
 pub line_sizes : (s : List ℕ) → GoodLine s → (37 ≤ length s) × (length s ≤ 2149)
@@ -113,29 +111,29 @@ module _ {w0 k0 : ℕ} {s : List ℕ} where
         line = x.line;
       }
 
-  pub written_reads : (x : WrittenFrom w0 k0 s) → reading s ≡ Fields x.serial (length x.label) (length x.message) 20 (20 + 2 * length x.label)
+  pub written_reads : (x : WrittenFrom w0 k0 s) → reading s ≡ placed x.serial (length x.label) (length x.message)
   written_reads x = sym (reads_reading s (fields_of (frame_from x)) (fields (frame_from x) (written_good x)))
 
   -- writing gives it, where there is room
-  pub writes_line : (x : WrittenFrom w0 k0 s) (out : List ℕ) → length s ≤ length out → writing w0 k0 x.serial x.label x.message out ≡ (Wrote (length s), s ++ drop (length s) out)
+  pub writes_line : (x : WrittenFrom w0 k0 s) (out : List ℕ) → length s ≤ length out → writing w0 k0 x.serial x.label x.message out ≡ (Ok (length s), s ++ drop (length s) out)
   writes_line x out room =
       sym (gives s out (length s) refl room ∙ ap (λ (l : List ℕ). giving l out) x.line ∙ writes w0 k0 x.serial x.label x.message out x.within)
 
   -- a line that writing gives opens to its message
   pub line_opens : (x : WrittenFrom w0 k0 s) (out : List ℕ) → length x.message ≤ length out
-      → opening_line w0 k0 s out ≡ (Wrote (length x.message), x.message ++ drop (length x.message) out)
+      → opening_line w0 k0 s out ≡ (Ok (length x.message), x.message ++ drop (length x.message) out)
   line_opens x out room =
       passes_on w0 k0 s out (frame_from x) (written_good x)
       ∙ opens w0 k0 x.serial x.label (length x.message) (sealed_bytes (key_schedule qarma64 w0 k0) x.serial x.label x.message) out x.within room
       (record { message = x.message; bytes = x.message_bytes; size = refl; sealed = refl })
 
   -- and no other line opens
-  opened_as : (out : List ℕ) (r : Reading) → Reads s r → (k : ℕ) (o : List ℕ) → opening_line w0 k0 s out ≡ (Wrote k, o) → WrittenFrom w0 k0 s
+  opened_as : (out : List ℕ) (r : Reading) → Reads s r → (k : ℕ) (o : List ℕ) → opening_line w0 k0 s out ≡ (Ok k, o) → WrittenFrom w0 k0 s
   opened_as out r (refused p q) k o e = absurd (not_both (sym e ∙ not_a_line w0 k0 s out p q))
   opened_as out r (fields f l) k o e =
       let h = l.limits in
       let w = h.within in
-      let opened : opening w0 k0 f.serial f.message_length f.label f.sealed out ≡ (Wrote k, o) = sym (passes_on w0 k0 s out f l) ∙ e in
+      let opened : opening w0 k0 f.serial f.message_length f.label f.sealed out ≡ (Ok k, o) = sym (passes_on w0 k0 s out f l) ∙ e in
       let x : SealedFrom (key_schedule qarma64 w0 k0) f.serial f.label f.message_length f.sealed =
       by_lt (length out) f.message_length
       (λ z. absurd (not_both (sym opened ∙ no_room w0 k0 f.serial f.label f.message_length f.sealed out w h.sealed z)))
@@ -151,5 +149,5 @@ module _ {w0 k0 : ℕ} {s : List ℕ} where
         line = l.line ∙ ap₂ (λ (n : ℕ) (c : List ℕ). line_of (frame_of f.serial f.label n c)) (sym x.size) (sym x.sealed);
       }
 
-  pub line_opens_only : (out : List ℕ) (k : ℕ) (o : List ℕ) → opening_line w0 k0 s out ≡ (Wrote k, o) → WrittenFrom w0 k0 s
+  pub line_opens_only : (out : List ℕ) (k : ℕ) (o : List ℕ) → opening_line w0 k0 s out ≡ (Ok k, o) → WrittenFrom w0 k0 s
   line_opens_only out k o e = opened_as out (reading s) (reading_reads s) k o e

@@ -1,6 +1,6 @@
 -- Where a line ends: what is too long, and bytes after the 0A.
-use Prim.Native.Nat.{ℕ, suc, ◌+◌, ◌*◌, ◌/◌, ◌≤◌, ◌<◌, zero-le}
-use mathlib.Core.Path.{◌≡◌, sym, ap, ◌∙◌}
+use Prim.Native.Nat.{ℕ, suc, ◌+◌, ◌/◌, ◌≤◌, ◌<◌, zero-le}
+use mathlib.Core.Path.{◌≡◌, sym, ap, subst, ◌∙◌}
 use mathlib.Core.List.{List, ◌∷◌, ◌++◌}
 use mathlib.Core.Bool.{Bool, true, false, cond}
 use native.Mathlib.Nat.{le_of_suc-le-suc, lt_irrefl, not-le_of_lt, div-lt_iff_lt-mul}
@@ -10,12 +10,12 @@ use lib.Seq.{take_all, take-append_seam}
 use lib.Dec.{lit<}
 use borrow.Author.Tests.{ne_eqb}
 use Rattle.words.proofs.Cases.{by_lt, clash, not_true_false}
-use Rattle.line.specs.declared.Reading.TheVariants.{Fields, NotLine}
 use Rattle.line.proofs.Shape.{Shape, end_far, start_end, fit, fit_parts, fitting}
 use Rattle.line.proofs.Written.{good_whole}
-use Rattle.line.specs.Line.{GoodLine}
+use Rattle.std.specs.Prelude.{Ok, Err}
+use Rattle.line.specs.Line.{GoodLine, Reading, not_line, placed}
 use Rattle.line.specs.Reader.{serial_of, label_length, message_length, end_of, fits, place, good, reading}
-use Rattle.line.proofs.Places.{past_end, shape_length, First, place_is, fits_start}
+use Rattle.line.proofs.Places.{past_end, shape_length, First, place_is, fits_start, place_within, all_stand, place_farther, place_here, fits_late}
 
 -- ---- a long line: its first 2150 bytes decide
 
@@ -29,7 +29,7 @@ first_only f n m j r l p q =
     by_lt m j (λ u. absurd (clash _ (p m u) (r.failed (omega arith))))
     (λ u. by_lt j m (λ v. absurd (clash _ (r.passed j zero-le v) q)) (λ v. omega arith))
 
-reading_bad : (s : List ℕ) → place s < length s → reading s ≡ NotLine (place s)
+reading_bad : (s : List ℕ) → place s < length s → reading s ≡ not_line (place s)
 unfolding reading good
 reading_bad s l = simp (ne_eqb (place s) (length s) (λ q. omega arith))
 
@@ -54,16 +54,16 @@ long_line s n l =
     (λ i w. fits_start s n i (omega arith) ∙ (place_is s).passed i zero-le w)
     (fits_start s n (place s) (omega arith) ∙ (place_is s).failed (omega arith))
     in
-    reading_bad (take n s) (omega arith) ∙ ap NotLine e ∙ sym (reading_bad s (omega arith)))
+    reading_bad (take n s) (omega arith) ∙ ap not_line e ∙ sym (reading_bad s (omega arith)))
     (λ u. rw (take_all n s u))
 
 -- a line of 2150 bytes or more is refused
-pub long_bad : (s : List ℕ) → 2150 ≤ length s → reading s ≡ NotLine (place s)
+pub long_bad : (s : List ℕ) → 2150 ≤ length s → reading s ≡ not_line (place s)
 long_bad s l = reading_bad s (omega (arith, place_early s l))
 
 -- ---- "Bytes after the 0A are refused at the first of them."
 
-pub after_end : (s : List ℕ) (b : ℕ) (t : List ℕ) → GoodLine s → reading (s ++ b ∷ t) ≡ NotLine (length s)
+pub after_end : (s : List ℕ) (b : ℕ) (t : List ℕ) → GoodLine s → reading (s ++ b ∷ t) ≡ not_line (length s)
 after_end s b t g =
     let u = s ++ b ∷ t in
     let w = good_whole s g in
@@ -75,16 +75,24 @@ after_end s b t g =
     let failed : fits u (length s) ≡ false =
     not_true_false (fits u (length s)) (λ e. clash _ (fit_parts u (length s) e).2 (past_end (length s) _ (end_of u) (omega (arith, w.whole, end_far s)) (omega (arith, w.whole, same)))) in
     let here : place u ≡ length s = first_only (fits u) (length u) (place u) (length s) (place_is u) (omega (arith, size)) passed failed in
-    reading_bad u (omega (arith, here, size)) ∙ ap NotLine here
+    reading_bad u (omega (arith, here, size)) ∙ ap not_line here
 
 -- a place is small: no good line is longer than 2149 bytes
 pub place_small : (s : List ℕ) → place s < 2150
 place_small s = by_lt (length s) 2150 (λ l. omega (arith, (place_is s).high)) (place_early s)
 
-pub bad_small : (s : List ℕ) (k : ℕ) → reading s ≡ NotLine k → k < 2150
-unfolding reading
+-- the place of a reading that has one
+place_in : Reading → ℕ
+place_in (Ok f) = 0
+place_in (Err e) = e.place
+
+pub bad_small : (s : List ℕ) (k : ℕ) → reading s ≡ not_line k → k < 2150
+unfolding reading place_in
 bad_small s k h = go (good s) h
   where
-    go : (t : Bool) → cond t (Fields (serial_of s) (label_length s) (message_length s) 20 (20 + 2 * label_length s)) (NotLine (place s)) ≡ NotLine k → k < 2150
+    go : (t : Bool) → cond t (placed (serial_of s) (label_length s) (message_length s)) (not_line (place s)) ≡ not_line k → k < 2150
     go true p = let z : ◌≡◌ {A = ℕ} 0 1 = cc in absurd (lt_irrefl 0 (omega arith))
-    go false p = let e : place s ≡ k = cc in rw e at (place_small s)
+    go false p = subst (λ (x : ℕ). x < 2150) (ap place_in p) (place_small s)
+
+-- for the loops that search the place
+pub ruleset places = (place_within, all_stand, place_farther, place_here, fits_late, place_small)

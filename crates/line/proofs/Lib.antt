@@ -1,10 +1,11 @@
+pub mod Tests
 pub mod Shape
 pub mod Hex
 pub mod Good
 pub mod Written
 pub mod Places
 pub mod Ends
-pub mod Fields
+pub mod Inside
 pub mod Writing
 pub mod Calls
 pub mod Bytes

@@ -1,5 +1,5 @@
 -- The answer that is computed is the paper's, and the paper's answer is only that.
-use Prim.Native.Nat.{ℕ, zero, suc, ◌+◌, ◌-◌, ◌*◌, ◌≤◌, ◌<◌, zero-le}
+use Prim.Native.Nat.{ℕ, zero, suc, ◌+◌, ◌-◌, ◌≤◌, ◌<◌, zero-le}
 use mathlib.Core.Path.{◌≡◌, refl, sym, ap, ◌∙◌, subst}
 use mathlib.Core.List.{List, ◌++◌}
 use mathlib.Core.Bool.{Bool, true, false, cond}
@@ -10,12 +10,10 @@ use lib.Seq.{get_or-take, take-append_seam, take-take}
 use lib.Dec.{eqb}
 use borrow.Author.Tests.{le-ltb, eq-eqb, ne_eqb, eqb-true}
 use Rattle.words.proofs.Cases.{by_lt, by_eq, both, clash}
-use Rattle.line.specs.declared.Reading.{Reading}
-use Rattle.line.specs.declared.Reading.TheVariants.{Fields, NotLine}
 use Rattle.line.proofs.Shape.{Shape, end_far, start_shape, start_label, start_message, start_end, fits_byte, fit, fit_parts, fitting, complete}
 use Rattle.line.proofs.Good.{whole_good}
 use Rattle.line.proofs.Written.{good_whole, line_fields}
-use Rattle.line.specs.Line.{Frame, LineOf, GoodLine, Begins, Place, wrong, short, fields_of, Reads, fields, refused}
+use Rattle.line.specs.Line.{Frame, LineOf, GoodLine, Begins, Place, wrong, short, Reading, not_line, placed, fields_of, Reads, fields, refused}
 use Rattle.line.specs.Reader.{serial_of, label_length, message_length, end_of, stands, fits, first, place, good, reading}
 
 -- ---- what begins a good line
@@ -144,7 +142,7 @@ module _ (s : List ℕ) where
 
   -- ---- the answer that is computed is the paper's, and the paper's answer is only that
 
-  bad_reading : good s ≡ false → reading s ≡ NotLine (place s)
+  bad_reading : good s ≡ false → reading s ≡ not_line (place s)
   unfolding reading
   bad_reading e = simp e
 
@@ -159,18 +157,18 @@ module _ (s : List ℕ) where
 
   -- ---- by cases, as the code answers
 
-  pub read_wrong : (k : ℕ) → k ≡ place s → k < length s → NotLine k ≡ reading s
+  pub read_wrong : (k : ℕ) → k ≡ place s → k < length s → not_line k ≡ reading s
   unfolding reading good
   read_wrong k e l = simp (e, ne_eqb (place s) (length s) (λ q. omega arith))
 
-  pub read_short : (k : ℕ) → k ≡ place s → length s ≤ k → (k ≡ end_of s + 1 → ⊥) → NotLine k ≡ reading s
+  pub read_short : (k : ℕ) → k ≡ place s → length s ≤ k → (k ≡ end_of s + 1 → ⊥) → not_line k ≡ reading s
   unfolding reading good
   read_short k e l h =
       let w : k ≡ length s = omega (arith, place_within s) in
       simp (sym e, ne_eqb (length s) (end_of s + 1) (λ x. h (w ∙ x)), eq-eqb k (length s) w)
 
   pub read_good : (k a b c : ℕ) → k ≡ place s → length s ≤ k → k ≡ end_of s + 1 → a ≡ serial_of s → b ≡ label_length s → c ≡ message_length s
-      → Fields a b c 20 (20 + 2 * b) ≡ reading s
+      → placed a b c ≡ reading s
   unfolding reading good
   read_good k a b c e l h x y z =
       let w : k ≡ length s = omega (arith, place_within s) in
@@ -189,9 +187,9 @@ module _ (s : List ℕ) where
   reads_reading r (fields f l) = read_fields f l
   reads_reading r (refused k h) = go (good s) refl
     where
-      go : (t : Bool) → good s ≡ t → NotLine k ≡ reading s
+      go : (t : Bool) → good s ≡ t → not_line k ≡ reading s
       go true e = absurd (placed_bad k h (line_good e))
-      go false e = ap NotLine (refused_place k h) ∙ sym (bad_reading e)
+      go false e = ap not_line (refused_place k h) ∙ sym (bad_reading e)
 
 -- two answers that the paper allows are one
 pub reads_one : (s : List ℕ) (r r' : Reading) → Reads s r → Reads s r' → r ≡ r'

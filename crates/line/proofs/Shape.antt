@@ -1,15 +1,15 @@
 -- The shape of a line, byte by byte: each start of it has the shape, and what has the shape can be completed.
 use Prim.Native.Nat.{ℕ, zero, suc, ◌+◌, ◌-◌, ◌*◌, ◌^◌, ◌≤◌, ◌<◌, zero-le}
-use mathlib.Core.Path.{◌≡◌, refl, sym, ap, ap₂, ◌∙◌}
+use mathlib.Core.Path.{◌≡◌, refl, sym, ap, ap₂, subst, ◌∙◌}
 use mathlib.Core.List.{List, [], ◌∷◌, ◌++◌, append-nil}
 use mathlib.Core.Bool.{Bool, true, false, cond}
-use native.Mathlib.Nat.{le_of_suc-le-suc, not-suc-le-zero, le_refl, le_trans, pow-le-pow_right}
+use native.Mathlib.Nat.{add-zero, add-suc, le_of_suc-le-suc, not-suc-le-zero, le_refl, le_trans, pow-le-pow_right}
 use native.Mathlib.Omega.{arith}
 use native.Mathlib.Numerals.{add-one}
 use lib.ListN.{length, get_or, take, length-take, length-append, get_or-eq_default, get_or-append}
 use lib.Seq.{get_or-take, take_all, get_or-append_seam, append_snoc}
 use lib.Dec.{lit<, ltb, leb, eqb}
-use borrow.Author.Tests.{lt-ltb, le-ltb, eq-eqb, ne_eqb, le-leb, lt-leb, leb-true, ltb-true}
+use borrow.Author.Tests.{lt-ltb, le-ltb, eq-eqb, ne_eqb, le-leb, leb-true, ltb-true}
 use Rattle.words.proofs.Cases.{by_eq, by_lt, all_three}
 use Rattle.frame.specs.Frames.{sealed_size}
 use Rattle.line.specs.Reader.{hex_value, number_at, label_length, message_length, end_of, stands, fits}
@@ -63,6 +63,19 @@ pub num_next : (s : List ℕ) (a n v d : ℕ) → v ≡ number_at s a n → d �
 unfolding number_at
 num_next s a n v d p q = rw (p, q, add-one)
 
+-- more digits make no smaller number
+num_up : (l : List ℕ) (a n k : ℕ) → number_at l a n ≤ number_at l a (n + k)
+unfolding number_at
+num_up l a n zero = omega (arith, ap (number_at l a) (add-zero n))
+num_up l a n (suc k) = rw (add-suc n k) (omega (arith, num_up l a n k))
+
+-- so that there is room for the next digit, where there is room for all
+pub num_room : (l : List ℕ) (a n i v : ℕ) → i < n → number_at l a n < 2 ^ 64 → v ≡ number_at l a i → v * 16 + hex_value (get_or l (a + i) 48) < 2 ^ 64
+num_room l a n i v h room e =
+    let all : i + 1 + (n - (i + 1)) ≡ n = omega arith in
+    let up : number_at l a (i + 1) ≤ number_at l a n = subst (λ (k : ℕ). number_at l a (i + 1) ≤ number_at l a k) all (num_up l a (i + 1) (n - (i + 1))) in
+    omega (arith, up, room, num_next l a i v (hex_value (get_or l (a + i) 48)) e refl)
+
 pub digit_past : (s : List ℕ) (i : ℕ) → length s ≤ i → hex_value (get_or s i 48) ≡ 0
 digit_past s i h = rw (get_or-eq_default s 48 {n = i} h, hex_value_zero)
 
@@ -81,14 +94,6 @@ module _ (s t : List ℕ) where
 -- ---- `fits`, test by test
 
 module _ (s : List ℕ) (i : ℕ) where
-  pub fits_label : 32 < label_length (take (i + 1) s) → false ≡ fits s i
-  unfolding fits
-  fits_label h = simp (lt-leb _ 32 h)
-
-  pub fits_message : label_length (take (i + 1) s) ≤ 32 → 1024 < message_length (take (i + 1) s) → false ≡ fits s i
-  unfolding fits
-  fits_message l h = simp (le-leb _ 32 l, lt-leb _ 1024 h)
-
   pub fits_byte : (e : ℕ) → label_length (take (i + 1) s) ≤ 32 → message_length (take (i + 1) s) ≤ 1024 → i < length s
       → e ≡ end_of (take (i + 1) s) → stands i (get_or s i 0) e ≡ fits s i
   unfolding fits
@@ -230,3 +235,6 @@ complete (suc n) p h e =
     let l : length p ≤ end_of p = omega arith in
     let (q, g) = complete n (more p) (more_shape p h l) (omega (arith, more_end p, more_length p)) in
     (next (length p) (end_of p) ∷ q, rw append_snoc at g)
+
+-- for the loop that reckons a number
+pub ruleset numbers = (inside, digit_past, num_zero, num_next, num_small)

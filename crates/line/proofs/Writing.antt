@@ -7,7 +7,7 @@ use native.Mathlib.Numerals.{add-one, sub-one}
 use native.Mathlib.Omega.{arith}
 use borrow.Rule.Slice.PartMut.{put_mid}
 use lib.ListN.{length, get_or, take, drop, set, length-append, length-drop, drop_of_length-le}
-use lib.Seq.{drop-cons, lt-length-set, get_or-set_same, drop-set-lt, take-suc, take_all, length-take-le, set_at}
+use lib.Seq.{drop-cons, lt-length-set, get_or-set_same, drop-set-lt, take-suc, length-take-le, set_at}
 use Rattle.words.proofs.Laws.{mid_turn, middle}
 use Rattle.line.specs.Line.{hex_digit, hex_digits, hex, Frame, line_of}
 use Rattle.line.specs.Calls.{frame_of}
@@ -37,13 +37,6 @@ hex_turn l d out ys i h o y =
     let more : hex (take (i + 1) l) ≡ hex (take i l) ++ hex_digits 2 (get_or l i 0) =
     ap hex (ap (λ (x : ℕ). take x l) (add-one i) ∙ take-suc l i 0 h) ∙ hex_append (take i l) (get_or l i 0 ∷ []) ∙ ap (λ (x : List ℕ). hex (take i l) ++ x) (hex_one (get_or l i 0)) in
     rw (o, y, more) (mid_turn (hex (take i l)) d _ (2 * i) (2 * i + 2 - 2 * i) (2 * (i + 1)) size (omega arith))
-
-pub hex_all : (l d out : List ℕ) (i : ℕ) → i ≡ length l → length d ≡ 2 * length l → out ≡ hex (take i l) ++ drop (2 * i) d → out ≡ hex l
-hex_all l d out i e h o =
-    o
-    ∙ ap (λ (x : List ℕ). hex (take i l) ++ x) (drop_of_length-le d {i = 2 * i} (omega arith))
-    ∙ append-nil (hex (take i l))
-    ∙ ap hex (take_all i l (omega arith))
 
 -- digits go behind b, where what was there is d
 pub next_part : (b d out y : List ℕ) (a k e v : ℕ) → length b ≡ a → a + k ≡ e → e ≤ length d → out ≡ b ++ drop a d → y ≡ hex_digits (length (take (e - a) (drop a out))) v
@@ -97,6 +90,3 @@ line_put d y1 y2 y3 a c serial n at end h p q e1 e2 e3 =
 pub line_length_lem : (f : Frame) → length (line_of f) ≡ 20 + 2 * (length f.label + length f.sealed) + 1
 unfolding line_of
 line_length_lem f = simp (length-append, length_hex_digits, length_hex) (omega arith)
-
-pub line_behind : (d : List ℕ) (f : Frame) (k : ℕ) → k ≡ 20 + 2 * (length f.label + length f.sealed) + 1 → k ≤ length d → length (line_of f ++ drop k d) ≡ length d
-line_behind d f k e h = simp (length-append, length-drop) (omega (arith, line_length_lem f))

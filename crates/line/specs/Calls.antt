@@ -1,15 +1,12 @@
 -- Document 01, "The frame line" and "What a refused caller gets": what writing and opening a line answer, and what they leave.
-use Rattle.std.specs.Prelude.{ℕ, ◌≡◌, List, length}
+use Rattle.std.specs.Prelude.{ℕ, ◌≡◌, List, length, Ok, Err}
 use Rattle.words.specs.Digits.{Digits}
-use Rattle.refusals.specs.declared.Answer.{Answer}
-use Rattle.refusals.specs.Refusals.{giving}
+use Rattle.refusals.specs.Refusals.{Answer, giving}
 use Rattle.cells64.specs.Qarma64.{qarma64}
 use Rattle.cipher.specs.Engine.{key_schedule}
 use Rattle.frame.specs.Frames.{limited, sealed_size, sealed_bytes, opening, Within}
-use Rattle.line.specs.Line.{Frame, line_of, refused_at}
+use Rattle.line.specs.Line.{Frame, line_of, Reading, refused_at}
 use Rattle.line.specs.Reader.{bytes_at, reading}
-use Rattle.line.specs.declared.Reading.{Reading}
-use Rattle.line.specs.declared.Reading.TheVariants.{Fields, NotLine}
 
 -- a frame with a message of n bytes
 abbrev pub frame_of : ℕ → List ℕ → ℕ → List ℕ → Frame
@@ -21,8 +18,8 @@ writing w0 k0 serial a m out = limited serial a (length m) out (giving (line_of 
 
 -- "Opening a line gives 7, or else passes on what opening gives.": over the computed reading. `passes_on` and `not_a_line` (`proofs/Demands.antt`) say it of good lines and of places.
 abbrev pub opening_as : ℕ → ℕ → List ℕ → Reading → List ℕ → Answer × List ℕ
-opening_as w0 k0 s (Fields serial l n label_place sealed_place) out = opening w0 k0 serial n (bytes_at s label_place l) (bytes_at s sealed_place (sealed_size n)) out
-opening_as w0 k0 s (NotLine k) out = (refused_at k, out)
+opening_as w0 k0 s (Ok f) out = opening w0 k0 f.serial f.message_length (bytes_at s f.label_place f.label_length) (bytes_at s f.sealed_place (sealed_size f.message_length)) out
+opening_as w0 k0 s (Err e) out = (refused_at e.place, out)
 
 unfoldable pub opening_line : ℕ → ℕ → List ℕ → List ℕ → Answer × List ℕ
 opening_line w0 k0 s out = opening_as w0 k0 s (reading s) out

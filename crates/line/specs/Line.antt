@@ -1,12 +1,11 @@
 -- Document 01, "The frame line": what a good line is, what begins one, the place in refusal 7, and what a reader answers.
-use Rattle.std.specs.Prelude.{ℕ, ◌+◌, ◌*◌, ◌<◌, ◌≡◌, List, [], ◌∷◌, ◌++◌, map, cond, length, take, ltb}
+use Rattle.std.specs.Prelude.{ℕ, ◌+◌, ◌*◌, ◌<◌, ◌≡◌, List, [], ◌∷◌, ◌++◌, map, cond, length, take, ltb, Result, Ok, Err}
 use Rattle.words.specs.Digits.{digits, Digits}
-use Rattle.refusals.specs.declared.Answer.{Answer}
-use Rattle.refusals.specs.declared.Answer.TheVariants.{Refused}
+use Rattle.refusals.specs.Refusals.{Answer}
 use Rattle.refusals.specs.declared.Refusal.TheVariants.{Line}
 use Rattle.frame.specs.Frames.{sealed_size, Within}
-use Rattle.line.specs.declared.Reading.{Reading}
-use Rattle.line.specs.declared.Reading.TheVariants.{Fields, NotLine}
+use Rattle.line.specs.declared.Fields.{Fields}
+use Rattle.line.specs.declared.NotLine.{NotLine}
 
 -- "Lowercase hexadecimal": '0' is byte 48, 'a' is byte 97
 unfoldable pub hex_digit : ℕ → ℕ
@@ -59,18 +58,25 @@ pub data Place (s : List ℕ) (k : ℕ) : Type 0 where
   wrong : k < length s → ((j : ℕ) → j < k → Begins (take (j + 1) s)) → (Begins (take (k + 1) s) → ⊥) → Place s k
   short : Begins s → (GoodLine s → ⊥) → k ≡ length s → Place s k
 
+-- "A reading answer either carries the fields and their places or the refusal and its place"
+abbrev pub Reading : Type 0
+Reading = Result Fields NotLine
+
+abbrev pub not_line : ℕ → Reading
+not_line k = Err (record { place = k })
+
 -- "the fields and their places": two digits a byte, label and sealed bytes stand behind the twenty digits of version, serial and lengths
 abbrev pub placed : ℕ → ℕ → ℕ → Reading
-placed serial l n = Fields serial l n 20 (20 + 2 * l)
+placed serial l n = Ok (record { serial = serial; label_length = l; message_length = n; label_place = 20; sealed_place = 20 + 2 * l })
 
 abbrev pub fields_of : Frame → Reading
 fields_of f = placed f.serial (length f.label) f.message_length
 
--- "A reading answer either carries the fields and their places or the refusal and its place"
+-- what a reading of s may be
 pub data Reads (s : List ℕ) : Reading → Type 0 where
   fields : (f : Frame) → LineOf s f → Reads s (fields_of f)
-  refused : (k : ℕ) → Place s k → Reads s (NotLine k)
+  refused : (k : ℕ) → Place s k → Reads s (not_line k)
 
 -- refusal 7 and its place, which a reading answer without fields stands for
 abbrev pub refused_at : ℕ → Answer
-refused_at k = Refused (Line k)
+refused_at k = Err (Line k)

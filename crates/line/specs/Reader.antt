@@ -1,8 +1,6 @@
 -- Document 01, "The frame line": the reading of a line, computed. Whether a byte may stand at a place, the bytes up to it decide. `proofs/Places.antt` shows that it is what `Line.antt` asks for.
 use Rattle.std.specs.Prelude.{ℕ, zero, suc, ◌+◌, ◌-◌, ◌*◌, List, [], ◌∷◌, Bool, cond, ◌&&◌, length, get_or, take, ltb, leb, eqb}
-use Rattle.line.specs.declared.Reading.{Reading}
-use Rattle.line.specs.declared.Reading.TheVariants.{NotLine}
-use Rattle.line.specs.Line.{placed}
+use Rattle.line.specs.Line.{Reading, not_line, placed}
 use Rattle.frame.specs.Frames.{sealed_size, label_max, message_max}
 
 -- the value of a lowercase hexadecimal digit, '0' to '9' and 'a' to 'f'; 16 for any other byte
@@ -62,4 +60,4 @@ good s = eqb (place s) (length s) && eqb (length s) (end_of s + 1)
 
 -- the fields and their places, or the place
 unfoldable pub reading : List ℕ → Reading
-reading s = cond (good s) (placed (serial_of s) (label_length s) (message_length s)) (NotLine (place s))
+reading s = cond (good s) (placed (serial_of s) (label_length s) (message_length s)) (not_line (place s))

@@ -8,26 +8,25 @@ use native.Mathlib.Omega.{arith}
 use lib.Dec.{eqb}
 use lib.ListN.{length, take, length-append}
 use Rattle.words.proofs.Cases.{by_eq}
-use Rattle.refusals.specs.declared.Answer.{Answer}
-use Rattle.refusals.specs.declared.Answer.TheVariants.{Wrote, Refused}
+use Rattle.refusals.specs.Refusals.{Answer, number_of, place_of}
+use Rattle.std.specs.Prelude.{Ok, Err}
 use Rattle.refusals.specs.declared.Refusal.{Refusal}
-use Rattle.refusals.specs.Refusals.{number_of, place_of}
-use Rattle.listing.specs.Listing.{answer_of, one, decimal, at_text, refusal_text, report, total}
-use Rattle.listing.specs.Chunks.{pushing, pushed, gathering, key_text, key_of, ended_as, ending, holding, fed_by, Appended, answering, Ends, Feeds, finishing, total_as, closing, Kept, Remembers}
-use Rattle.listing.specs.declared.Key.{Key}
-use Rattle.listing.specs.declared.Key.TheVariants.{Unread, Known, Bad}
+use Rattle.texts.specs.Texts.{decimal, Appended}
+use Rattle.listing.specs.Listing.{answer_of, one, at_text, refusal_text, report, total}
+use Rattle.listing.specs.Chunks.{pushing, pushed, gathering, key_text, key_of, ended_as, ending, holding, fed_by, answering, Ends, Feeds, finishing, total_as, closing, Kept, Remembers}
+use Rattle.listing.specs.declared.KeyLine.{KeyLine}
+use Rattle.listing.specs.declared.KeyLine.TheVariants.{Unread, Known, Bad}
 use Rattle.listing.specs.declared.Lister.{Lister}
 use Rattle.listing.specs.declared.Gathered.{Gathered}
-use Rattle.listing.specs.declared.Ended.{Ended}
 use Rattle.listing.specs.declared.Fed.{Fed}
 use Rattle.line.specs.Reader.{serial_of}
-use Rattle.listing.proofs.Texts.{decimal_short}
+use Rattle.texts.proofs.Texts.{decimal_short}
 use Rattle.listing.proofs.Used.{remembers_next}
 use Rattle.listing.proofs.Gathering.{push_few, on_end, on_more}
 
 pub one_few : (a : Answer) → one a ≤ 1
-one_few (Wrote k) = omega arith
-one_few (Refused r) = omega arith
+one_few (Ok k) = omega arith
+one_few (Err r) = omega arith
 
 -- ---- texts
 
@@ -39,12 +38,12 @@ short_refusal r = go (eqb (number_of r) 7)
     go false = simp length-append (omega (arith, decimal_short (number_of r)))
 
 short_report : (n : ℕ) (a : Answer) → length (report n a) ≤ 128
-short_report n (Wrote k) = simp length-append (omega (arith, decimal_short n, decimal_short k))
-short_report n (Refused r) = simp length-append (omega (arith, decimal_short n, simp length-append at (short_refusal r)))
+short_report n (Ok k) = simp length-append (omega (arith, decimal_short n, decimal_short k))
+short_report n (Err r) = simp length-append (omega (arith, decimal_short n, simp length-append at (short_refusal r)))
 
-short_key : (k : Key) → length (key_text k) ≤ 128
+short_key : (k : KeyLine) → length (key_text k) ≤ 128
 short_key Unread = omega arith
-short_key (Known w0 k0) = omega arith
+short_key (Known key) = omega arith
 short_key Bad = omega arith
 
 short_total : (n k : ℕ) → length (total n k) ≤ 128
@@ -63,15 +62,15 @@ pub record Bounded (t u : Lister) (m : List ℕ) (n : ℕ) : Type 0 where
 abbrev Next : Lister → Lister × List ℕ × List ℕ → Type 0
 Next t x = Bounded t x.0 x.1 (length x.2)
 
-next_as : (t : Lister) (m l : List ℕ) (k : Key) → Kept t → Remembers t.opened m → Next t (ended_as t m l k)
+next_as : (t : Lister) (m l : List ℕ) (k : KeyLine) → Kept t → Remembers t.opened m → Next t (ended_as t m l k)
 next_as t m l Unread h s = record { few = h.few; lines = omega arith; held = omega arith; serials = s; said = short_key (key_of l) }
-next_as t m l (Known w0 k0) h s =
-    let a = answering t.opened (serial_of l) m (answer_of w0 k0 l) in
+next_as t m l (Known key) h s =
+    let a = answering t.opened (serial_of l) m (answer_of key.w0 key.k0 l) in
     record {
       few = omega (arith, h.few, one_few a.0);
       lines = omega arith;
       held = omega arith;
-      serials = remembers_next t.opened (serial_of l) m s (answer_of w0 k0 l);
+      serials = remembers_next t.opened (serial_of l) m s (answer_of key.w0 key.k0 l);
       said = short_report (t.lines + 1) a.0;
     }
 next_as t m l Bad h s = record { few = h.few; lines = omega arith; held = omega arith; serials = s; said = omega arith }
@@ -122,28 +121,28 @@ next_kept h b = record { few = b.few; lines = omega (arith, h, b.lines); held = 
 bounded : (t : Lister) (x : Lister × List ℕ × List ℕ) (u : Lister) (m d out : List ℕ) (n : ℕ) → Next t x → u ≡ x.0 → m ≡ x.1 → Appended d 0 x.2 out n → Bounded t u m n
 bounded t x u m d out n h e f a = rw (e, f, a.end, zero-add) h
 
-pub feed_bounded : {t : Lister} (chunk line m : List ℕ) {line' m' d out : List ℕ} {r : Fed} → Kept t → Remembers t.opened m → Feeds t m (gathering line t.held 0 chunk) d r line' m' out → Bounded t r.state m' r.said
-feed_bounded {t} chunk line m {line'} {m'} {d} {out} {r} h s f =
+pub feed_bounded : {t : Lister} (chunk line m : List ℕ) {line' m' d out : List ℕ} {r : Fed} {u : Lister} → Kept t → Remembers t.opened m → Feeds t m (gathering line t.held 0 chunk) d r u line' m' out → Bounded t u m' r.said
+feed_bounded {t} chunk line m {line'} {m'} {d} {out} {r} {u} h s f =
     let g = gathering line t.held 0 chunk in
-    bounded t (fed_by t m g) r.state m' d out r.said (next_fed t m g h s (taken chunk line t.held 0 h.held).held) f.state f.serials f.text
+    bounded t (fed_by t m g) u m' d out r.said (next_fed t m g h s (taken chunk line t.held 0 h.held).held) f.state f.serials f.text
 
-pub feed_taken : {t : Lister} (chunk line m : List ℕ) {line' m' d out : List ℕ} {r : Fed} → Kept t → Feeds t m (gathering line t.held 0 chunk) d r line' m' out
+pub feed_taken : {t : Lister} (chunk line m : List ℕ) {line' m' d out : List ℕ} {r : Fed} {u : Lister} → Kept t → Feeds t m (gathering line t.held 0 chunk) d r u line' m' out
     → (r.taken ≤ length chunk) × (1 ≤ length chunk → 1 ≤ r.taken)
 feed_taken {t} chunk line m {line'} {m'} {d} {out} {r} h f =
     let k = taken chunk line t.held 0 h.held in
     (omega (arith, k.most, f.taken), λ l. omega (arith, k.some l, f.taken))
 
-pub finish_bounded : {t : Lister} (line m : List ℕ) {m' d out : List ℕ} {r : Ended} → Kept t → Remembers t.opened m → Ends (finishing t m line) d r m' out → Bounded t r.state m' r.said
-finish_bounded {t} line m {m'} {d} {out} {r} h s e =
-    bounded t (finishing t m line) r.state m' d out r.said (next_finished t m line h s) e.state e.serials e.text
+pub finish_bounded : {t : Lister} (line m : List ℕ) {m' d out : List ℕ} {u : Lister} {n : ℕ} → Kept t → Remembers t.opened m → Ends (finishing t m line) d u m' out n → Bounded t u m' n
+finish_bounded {t} line m {m'} {d} {out} {u} {n} h s e =
+    bounded t (finishing t m line) u m' d out n (next_finished t m line h s) e.state e.serials e.text
 
 short_closing : (t : Lister) → length (closing t) ≤ 128
 unfolding closing
 short_closing t = go t.key
   where
-    go : (k : Key) → length (total_as t k) ≤ 128
+    go : (k : KeyLine) → length (total_as t k) ≤ 128
     go Unread = omega arith
-    go (Known w0 k0) = short_total t.lines t.opened
+    go (Known key) = short_total t.lines t.opened
     go Bad = omega arith
 
 pub total_bounded : (t : Lister) {d out : List ℕ} {m : ℕ} → Appended d 0 (closing t) out m → m ≤ 128

@@ -8,10 +8,11 @@ use lib.Dec.{eqb}
 use lib.ListN.{length}
 use lib.Seq.{append_snoc}
 use Rattle.words.proofs.Cases.{by_eq}
-use Rattle.listing.specs.Listing.{lines_of, serials_max, listing}
-use Rattle.listing.specs.Chunks.{ending, closing}
+use Rattle.texts.specs.Lines.{lines_of}
+use Rattle.listing.specs.Listing.{serials_max, listing}
+use Rattle.listing.specs.Chunks.{start, ending, closing}
 use Rattle.listing.specs.declared.Lister.{Lister}
-use Rattle.listing.proofs.Lines.{rest, start, rest_all}
+use Rattle.listing.proofs.Lines.{rest, rest_all}
 
 -- the state, the memory of the serials, the bytes of the line that has not ended, and what has been printed
 pub record Sofar : Type 0 where

@@ -9,18 +9,17 @@ use borrow.Author.Tests.{eq-eqb, ne_eqb}
 use lib.ListN.{length, take, drop, length-take}
 use lib.Seq.{append_snoc, take_all, take-append-le, take-take, take_at, take-length, length-take-le}
 use Rattle.words.proofs.Cases.{by_lt, by_eq}
-use Rattle.refusals.specs.declared.Answer.{Answer}
+use Rattle.refusals.specs.Refusals.{Answer}
+use Rattle.texts.specs.Texts.{Appended}
 use Rattle.listing.specs.Listing.{serials_max, listing}
-use Rattle.listing.specs.Chunks.{pushing, pushed, gathering, Appended, key_text, answering, Ends, ended_known, ended_as, ending, holding, fed_by, Feeds, finishing, closing, total_as}
-use Rattle.listing.specs.declared.Key.{Key}
-use Rattle.listing.specs.declared.Key.TheVariants.{Unread, Known, Bad}
+use Rattle.listing.specs.Chunks.{start, pushing, pushed, gathering, key_text, answering, Ends, ended_known, ended_as, ending, holding, fed_by, Feeds, finishing, closing, total_as}
+use Rattle.listing.specs.declared.KeyLine.{KeyLine}
+use Rattle.listing.specs.declared.KeyLine.TheVariants.{Unread, Known, Bad}
 use Rattle.listing.specs.declared.Lister.{Lister}
 use Rattle.listing.specs.declared.Gathered.{Gathered}
-use Rattle.listing.specs.declared.Ended.{Ended}
 use Rattle.listing.specs.declared.Fed.{Fed}
 use Rattle.listing.proofs.Gathering.{push_few, push_length, push_bytes, on_end, on_more}
 use Rattle.listing.proofs.Long.{long_answer, long_serial, long_key}
-use Rattle.listing.proofs.Lines.{start}
 use Rattle.listing.proofs.Bytes.{Sofar, began, brings, ended, longer, step_ended, step_longer, fed, fed_append, all_as, reckons}
 
 -- ---- the bytes that are held
@@ -79,9 +78,9 @@ gathers (b ∷ s) st line held n h =
 abbrev pub settled : Lister → Lister
 settled t = holding t 0
 
-ending_as : (t : Lister) (m l : List ℕ) (k : Key) → ended_as t m (take 2150 l) k ≡ ended_as (settled t) m l k
-ending_as t m l Unread = ap (λ (k : Key). (record { key = k; lines = t.lines; opened = t.opened; held = 0 }, m, key_text k)) (long_key l)
-ending_as t m l (Known w0 k0) = ap₂ (λ (x : ℕ) (a : Answer). ended_known t w0 k0 (answering t.opened x m a)) (long_serial l) (long_answer w0 k0 l)
+ending_as : (t : Lister) (m l : List ℕ) (k : KeyLine) → ended_as t m (take 2150 l) k ≡ ended_as (settled t) m l k
+ending_as t m l Unread = ap (λ (k : KeyLine). (record { key = k; lines = t.lines; opened = t.opened; held = 0 }, m, key_text k)) (long_key l)
+ending_as t m l (Known key) = ap₂ (λ (x : ℕ) (a : Answer). ended_known t key (answering t.opened x m a)) (long_serial l) (long_answer key.w0 key.k0 l)
 ending_as t m l Bad = refl
 
 ending_same : (t s : Lister) (m n x l : List ℕ) → settled t ≡ s → m ≡ n → x ≡ take 2150 l → ending t m x ≡ ending s n l
@@ -91,18 +90,18 @@ ending_same t s m n x l e d q =
     ∙ ending_as t n l t.key
     ∙ ap (λ (u : Lister). ended_as u n l u.key) e
 
-settled_as : (t : Lister) (m l : List ℕ) (k : Key) → settled (ended_as t m l k).0 ≡ (ended_as t m l k).0
+settled_as : (t : Lister) (m l : List ℕ) (k : KeyLine) → settled (ended_as t m l k).0 ≡ (ended_as t m l k).0
 settled_as t m l Unread = refl
-settled_as t m l (Known w0 k0) = refl
+settled_as t m l (Known key) = refl
 settled_as t m l Bad = refl
 
 settled_ending : (t : Lister) (m l : List ℕ) → settled (ending t m l).0 ≡ (ending t m l).0
 unfolding ending
 settled_ending t m l = settled_as t m l t.key
 
-closing_as : (t : Lister) (k : Key) → total_as t k ≡ total_as (settled t) k
+closing_as : (t : Lister) (k : KeyLine) → total_as t k ≡ total_as (settled t) k
 closing_as t Unread = refl
-closing_as t (Known w0 k0) = refl
+closing_as t (Known key) = refl
 closing_as t Bad = refl
 
 closing_settled : (t : Lister) → closing t ≡ closing (settled t)
@@ -135,25 +134,25 @@ module _ (m₀ : List ℕ) where
   keeps_of : (p : List ℕ) (st : Sofar) (t : Lister) (line m said : List ℕ) → after p ≡ st → settled t ≡ st.state → m ≡ st.serials → Holds line t.held st.part → said ≡ st.said → Keeps p t line m said
   keeps_of p st t line m said e a f b c = record { state = rw e a; serials = rw e f; held = rw e b; printed = rw e c }
 
-  keeps_as : (p chunk line m m' said out d : List ℕ) (t : Lister) (g : Gathered) (r : Fed) → settled t ≡ (after p).state → m ≡ (after p).serials → said ≡ (after p).said
-      → Gathers (after p) 0 chunk g line → Feeds t m (g, line) d r line m' out → Keeps (p ++ take r.taken chunk) r.state line m' (said ++ take r.said out)
-  keeps_as p chunk line m m' said out d t g r e w q (whole_line k l y n lo hi f h) u =
+  keeps_as : (p chunk line m m' said out d : List ℕ) (t : Lister) (g : Gathered) (r : Fed) (u : Lister) → settled t ≡ (after p).state → m ≡ (after p).serials → said ≡ (after p).said
+      → Gathers (after p) 0 chunk g line → Feeds t m (g, line) d r u line m' out → Keeps (p ++ take r.taken chunk) u line m' (said ++ take r.said out)
+  keeps_as p chunk line m m' said out d t g r v e w q (whole_line k l y n lo hi f h) u =
       let st : Sofar = after p in
       let both : fed_by t m (g, line) ≡ brings st l = rw y (ending_same t st.state m st.serials (take g.held line) l e w h.bytes) in
-      let rs : r.state ≡ (brings st l).0 = u.state ∙ ap (λ (x : Lister × List ℕ × List ℕ). x.0) both in
+      let rs : v ≡ (brings st l).0 = u.state ∙ ap (λ (x : Lister × List ℕ × List ℕ). x.0) both in
       let settled_rs : settled (brings st l).0 ≡ (brings st l).0 = settled_ending st.state st.serials l in
-      let none : r.state.held ≡ 0 = ap (λ (x : Lister). x.held) rs ∙ sym (ap (λ (x : Lister). x.held) settled_rs) in
-      keeps_of (p ++ take r.taken chunk) (ended st l) r.state line m' (said ++ take r.said out)
+      let none : v.held ≡ 0 = ap (λ (x : Lister). x.held) rs ∙ sym (ap (λ (x : Lister). x.held) settled_rs) in
+      keeps_of (p ++ take r.taken chunk) (ended st l) v line m' (said ++ take r.said out)
       (fed_append (began m₀) p (take r.taken chunk) ∙ ap (λ (j : ℕ). fed st (take j chunk)) (u.taken ∙ n ∙ zero-add k) ∙ f)
       (ap settled rs ∙ settled_rs)
       (u.serials ∙ ap (λ (x : Lister × List ℕ × List ℕ). x.1) both)
       (record { few = omega (arith, none); room = h.room; bytes = ap (λ (j : ℕ). take j line) none })
       (ap₂ ◌++◌ q (appended_text u.text ∙ ap (λ (x : Lister × List ℕ × List ℕ). x.2) both))
-  keeps_as p chunk line m m' said out d t g r e w q (more_of_it y n f h) u =
+  keeps_as p chunk line m m' said out d t g r v e w q (more_of_it y n f h) u =
       let st : Sofar = after p in
       let both : fed_by t m (g, line) ≡ (holding t g.held, m, []) = rw y in
-      let rs : r.state ≡ holding t g.held = u.state ∙ ap (λ (x : Lister × List ℕ × List ℕ). x.0) both in
-      keeps_of (p ++ take r.taken chunk) (longer st (st.part ++ chunk)) r.state line m' (said ++ take r.said out)
+      let rs : v ≡ holding t g.held = u.state ∙ ap (λ (x : Lister × List ℕ × List ℕ). x.0) both in
+      keeps_of (p ++ take r.taken chunk) (longer st (st.part ++ chunk)) v line m' (said ++ take r.said out)
       (fed_append (began m₀) p (take r.taken chunk) ∙ ap (fed st) (ap (λ (j : ℕ). take j chunk) (u.taken ∙ n ∙ zero-add (length chunk)) ∙ take-length chunk) ∙ f)
       (ap settled rs ∙ e)
       (u.serials ∙ ap (λ (x : Lister × List ℕ × List ℕ). x.1) both ∙ w)
@@ -161,33 +160,33 @@ module _ (m₀ : List ℕ) where
       (ap₂ ◌++◌ q (appended_text u.text ∙ ap (λ (x : Lister × List ℕ × List ℕ). x.2) both) ∙ append-nil st.said)
 
   -- a chunk, or as much of it as was taken
-  pub keeps_more : (p chunk line line' m m' said out d : List ℕ) (t : Lister) (r : Fed) → Keeps p t line m said → Feeds t m (gathering line t.held 0 chunk) d r line' m' out
-      → Keeps (p ++ take r.taken chunk) r.state line' m' (said ++ take r.said out)
-  keeps_more p chunk line line' m m' said out d t r h u =
+  pub keeps_more : (p chunk line line' m m' said out d : List ℕ) (t : Lister) (r : Fed) (u : Lister) → Keeps p t line m said → Feeds t m (gathering line t.held 0 chunk) d r u line' m' out
+      → Keeps (p ++ take r.taken chunk) u line' m' (said ++ take r.said out)
+  keeps_more p chunk line line' m m' said out d t r v h u =
       let g = gathering line t.held 0 chunk in
-      let v : Feeds t m (g.0, g.1) d r g.1 m' out = subst (λ (x : List ℕ). Feeds t m g d r x m' out) u.line u in
-      subst (λ (x : List ℕ). Keeps (p ++ take r.taken chunk) r.state x m' (said ++ take r.said out)) (sym u.line)
-      (keeps_as p chunk g.1 m m' said out d t g.0 r h.state h.serials h.printed (gathers chunk (after p) line t.held 0 h.held) v)
+      let f : Feeds t m (g.0, g.1) d r v g.1 m' out = subst (λ (x : List ℕ). Feeds t m g d r v x m' out) u.line u in
+      subst (λ (x : List ℕ). Keeps (p ++ take r.taken chunk) v x m' (said ++ take r.said out)) (sym u.line)
+      (keeps_as p chunk g.1 m m' said out d t g.0 r v h.state h.serials h.printed (gathers chunk (after p) line t.held 0 h.held) f)
 
   -- the end: all that has been printed is the listing
-  keeps_end : (q p line m m' said d out e out' : List ℕ) (t : Lister) (r : Ended) (n : ℕ) → Keeps p t line m said → (after p).part ≡ q → Ends (finishing t m line) d r m' out → Appended e 0 (closing r.state) out' n
-      → (said ++ take r.said out) ++ take n out' ≡ all_as (after p) q
+  keeps_end : (q p line m m' said d out e out' : List ℕ) (t u : Lister) (k n : ℕ) → Keeps p t line m said → (after p).part ≡ q → Ends (finishing t m line) d u m' out k → Appended e 0 (closing u) out' n
+      → (said ++ take k out) ++ take n out' ≡ all_as (after p) q
   unfolding finishing
-  keeps_end [] p line m m' said d out e out' t r n h z u v =
+  keeps_end [] p line m m' said d out e out' t _ k n h z u v =
       let st : Sofar = after p in
       let none : t.held ≡ 0 = sym (length-take-le t.held line (omega (arith, h.held.few, h.held.room))) ∙ ap length (h.held.bytes ∙ ap (take 2150) z) in
       let fin : finishing t m line ≡ (t, m, []) = rw (eq-eqb t.held 0 none) in
       ap₂ ◌++◌ (ap₂ ◌++◌ h.printed (appended_text u.text ∙ ap (λ (x : Lister × List ℕ × List ℕ). x.2) fin) ∙ append-nil st.said)
       (appended_text v ∙ ap closing (u.state ∙ ap (λ (x : Lister × List ℕ × List ℕ). x.0) fin) ∙ closing_settled t ∙ ap closing h.state)
-  keeps_end (b ∷ q) p line m m' said d out e out' t r n h z u v =
+  keeps_end (b ∷ q) p line m m' said d out e out' t _ k n h z u v =
       let st : Sofar = after p in
       let bytes : take t.held line ≡ take 2150 (b ∷ q) = h.held.bytes ∙ ap (take 2150) z in
       let fin : finishing t m line ≡ brings st (b ∷ q) =
-      rw (ne_eqb t.held 0 (λ k. absurd (omega (arith, k, ap length bytes, length-take t.held line, length-take 2150 (b ∷ q)))))
+      rw (ne_eqb t.held 0 (λ j. absurd (omega (arith, j, ap length bytes, length-take t.held line, length-take 2150 (b ∷ q)))))
       (ending_same t st.state m st.serials (take t.held line) (b ∷ q) h.state h.serials bytes) in
       ap₂ ◌++◌ (ap₂ ◌++◌ h.printed (appended_text u.text ∙ ap (λ (x : Lister × List ℕ × List ℕ). x.2) fin))
       (appended_text v ∙ ap closing (u.state ∙ ap (λ (x : Lister × List ℕ × List ℕ). x.0) fin))
 
-  pub whole_listing : length m₀ ≡ serials_max → (p line m m' said d out e out' : List ℕ) (t : Lister) (r : Ended) (n : ℕ) → Keeps p t line m said → Ends (finishing t m line) d r m' out → Appended e 0 (closing r.state) out' n
-      → (said ++ take r.said out) ++ take n out' ≡ listing p
-  whole_listing room p line m m' said d out e out' t r n h u v = keeps_end (after p).part p line m m' said d out e out' t r n h refl u v ∙ reckons m₀ p room
+  pub whole_listing : length m₀ ≡ serials_max → (p line m m' said d out e out' : List ℕ) (t u : Lister) (k n : ℕ) → Keeps p t line m said → Ends (finishing t m line) d u m' out k → Appended e 0 (closing u) out' n
+      → (said ++ take k out) ++ take n out' ≡ listing p
+  whole_listing room p line m m' said d out e out' t u k n h x y = keeps_end (after p).part p line m m' said d out e out' t u k n h refl x y ∙ reckons m₀ p room

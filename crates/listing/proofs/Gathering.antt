@@ -66,5 +66,8 @@ module _ (line chunk : List ℕ) (h i : ℕ) (whole : Gathered × List ℕ) (e :
       ∙ sym (ap (gathering line h i) (drop-cons chunk i 0 l))
       ∙ e
 
-  pub gather_none : length chunk ≤ i → (record { held = h; taken = i; ended = false }, line) ≡ whole
-  gather_none l = sym (ap (gathering line h i) (drop_of_length-le chunk {i = i} l)) ∙ e
+  pub gather_none : i ≡ length chunk → (record { held = h; taken = length chunk; ended = false }, line) ≡ whole
+  gather_none n =
+      ap (λ (k : ℕ). (record { held = h; taken = k; ended = false }, line)) (sym n)
+      ∙ sym (ap (gathering line h i) (drop_of_length-le chunk {i = i} (omega arith)))
+      ∙ e

@@ -1,10 +1,10 @@
 -- The key line: the computed test, and the two numbers.
-use Prim.Native.Nat.{ℕ, zero, suc, ◌+◌, ◌-◌, ◌*◌, ◌^◌, ◌≤◌, ◌<◌}
+use Prim.Native.Nat.{ℕ, zero, suc, ◌+◌, ◌^◌, ◌≤◌, ◌<◌}
 use mathlib.Core.Bool.{Bool, true, false, ◌&&◌}
-use mathlib.Core.Path.{◌≡◌, refl, sym, ap, subst, ◌∙◌}
+use mathlib.Core.Path.{◌≡◌, refl, sym, subst, ◌∙◌}
 use mathlib.Core.List.{List}
 use mathlib.Core.Logic.{inl, inr}
-use native.Mathlib.Nat.{add-zero, add-suc, eq-or-lt_of_le}
+use native.Mathlib.Nat.{eq-or-lt_of_le}
 use native.Mathlib.Numerals.{add-one}
 use native.Mathlib.Omega.{arith}
 use borrow.Author.Tests.{lt-ltb, eq-eqb, ne_eqb, ltb-true}
@@ -12,28 +12,11 @@ use lib.Dec.{eqb}
 use lib.ListN.{length, get_or}
 use Rattle.words.proofs.Cases.{both}
 use Rattle.line.specs.Reader.{hex_value, number_at}
-use Rattle.line.proofs.Shape.{inside, num_next, num_small}
+use Rattle.line.proofs.Shape.{inside}
 use Rattle.line.proofs.Good.{num_below}
 use Rattle.listing.specs.Listing.{are_digits, is_key, w0_of, k0_of}
 use Rattle.listing.specs.Chunks.{key_of}
-use Rattle.listing.specs.declared.Key.TheVariants.{Known, Bad}
-
--- more digits make no smaller number
-num_up : (l : List ℕ) (a n k : ℕ) → number_at l a n ≤ number_at l a (n + k)
-unfolding number_at
-num_up l a n zero = omega (arith, ap (number_at l a) (add-zero n))
-num_up l a n (suc k) = rw (add-suc n k) (omega (arith, num_up l a n k))
-
--- so that there is room for the next digit, where there is room for all
-pub num_room : (l : List ℕ) (a n i v : ℕ) → i < n → number_at l a n < 2 ^ 64 → v ≡ number_at l a i → v * 16 + hex_value (get_or l (a + i) 48) < 2 ^ 64
-num_room l a n i v h room e =
-    let all : i + 1 + (n - (i + 1)) ≡ n = omega arith in
-    let up : number_at l a (i + 1) ≤ number_at l a n = subst (λ (k : ℕ). number_at l a (i + 1) ≤ number_at l a k) all (num_up l a (i + 1) (n - (i + 1))) in
-    omega (arith, up, room, num_next l a i v (hex_value (get_or l (a + i) 48)) e refl)
-
--- and for a few digits there is, whatever they are
-pub num_fits : (l : List ℕ) (a n : ℕ) → n ≤ 12 → number_at l a n < 2 ^ 64
-num_fits l a n h = omega (arith, num_small l a n h)
+use Rattle.listing.specs.declared.KeyLine.TheVariants.{Known, Bad}
 
 -- ---- digits, one by one
 
@@ -91,6 +74,6 @@ module _ (l : List ℕ) where
   unfolding key_of
   key_bad h = simp h
 
-  pub key_known : (w0 k0 : ℕ) → is_key l ≡ true → w0 ≡ w0_of l → k0 ≡ k0_of l → Known w0 k0 ≡ key_of l
+  pub key_known : (w0 k0 : ℕ) → is_key l ≡ true → w0 ≡ w0_of l → k0 ≡ k0_of l → Known (record { w0 = w0; k0 = k0 }) ≡ key_of l
   unfolding key_of
   key_known w0 k0 h e f = simp (h, e, f)

@@ -1,4 +1,4 @@
-pub mod Texts
+pub mod Refused
 pub mod Keys
 pub mod Gathering
 pub mod Used

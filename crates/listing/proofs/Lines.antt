@@ -8,17 +8,17 @@ use native.Mathlib.Omega.{arith}
 use lib.ListN.{length, take}
 use Rattle.words.specs.Cases.{if_le, if_yes}
 use Rattle.words.specs.Lists.{among}
-use Rattle.refusals.specs.declared.Answer.{Answer}
-use Rattle.refusals.specs.declared.Answer.TheVariants.{Wrote, Refused}
+use Rattle.refusals.specs.Refusals.{Answer}
+use Rattle.std.specs.Prelude.{Ok, Err}
 use Rattle.refusals.specs.declared.Refusal.TheVariants.{RepeatedSerial, SerialListFull}
 use Rattle.serials.proofs.Among.{among_both}
 use Rattle.serials.proofs.Rising.{put_among}
 use Rattle.serials.proofs.Places.{first_numbers}
 use Rattle.line.specs.Reader.{serial_of}
 use Rattle.listing.specs.Listing.{is_key, w0_of, k0_of, key_refused_text, answer_of, serials_max, unless_used, answer_after, used_by, used_after, answers, report, reports, one, opened_in, total, reported, listed}
-use Rattle.listing.specs.Chunks.{key_of, key_text, used_in, answering, ending, closing, Remembers}
-use Rattle.listing.specs.declared.Key.{Key}
-use Rattle.listing.specs.declared.Key.TheVariants.{Unread, Known, Bad}
+use Rattle.listing.specs.Chunks.{start, key_of, key_text, used_in, answering, ending, closing, Remembers}
+use Rattle.listing.specs.declared.KeyLine.{KeyLine}
+use Rattle.listing.specs.declared.KeyLine.TheVariants.{Known, Bad}
 use Rattle.listing.specs.declared.Lister.{Lister}
 use Rattle.listing.proofs.Keys.{key_known, key_bad}
 use Rattle.listing.proofs.Used.{opened_as, used_count, remembers_none, remembers_next}
@@ -38,15 +38,15 @@ stands_none m h = record { kept = remembers_none m h; count = refl; same = λ x.
 
 module _ {used : List ℕ} {k : ℕ} {m : List ℕ} (h : Stands used k m) (serial : ℕ) where
   same_answer : (own : Answer) → unless_used (take k m) serial own ≡ unless_used used serial own
-  same_answer (Refused r) = refl
-  same_answer (Wrote j) =
-      ap₂ (λ (t : Bool) (n : ℕ). if_yes t (Refused RepeatedSerial) (if_le serials_max n (Refused SerialListFull) (Wrote j)))
+  same_answer (Err r) = refl
+  same_answer (Ok j) =
+      ap₂ (λ (t : Bool) (n : ℕ). if_yes t (Err RepeatedSerial) (if_le serials_max n (Err SerialListFull) (Ok j)))
       (h.same serial)
       (used_count k serial m h.kept ∙ sym h.count)
 
   stands_as : (own a : Answer) → unless_used (take k m) serial own ≡ a → Remembers (k + one a) (used_in k serial m a) → Stands (used_by used serial a) (k + one a) (used_in k serial m a)
-  stands_as own (Refused r) e next = record { kept = next; count = h.count ∙ sym (add-zero k); same = λ x. ap (λ (n : ℕ). among x (take n m)) (add-zero k) ∙ h.same x }
-  stands_as own (Wrote j) e next =
+  stands_as own (Err r) e next = record { kept = next; count = h.count ∙ sym (add-zero k); same = λ x. ap (λ (n : ℕ). among x (take n m)) (add-zero k) ∙ h.same x }
+  stands_as own (Ok j) e next =
       let few : k < length m = omega (arith, (opened_as (take k m) serial own j e).room, used_count k serial m h.kept, h.kept.room) in
       record {
         kept = next;
@@ -61,7 +61,7 @@ module _ {used : List ℕ} {k : ℕ} {m : List ℕ} (h : Stands used k m) (seria
       (stands_as own (unless_used (take k m) serial own) refl (remembers_next k serial m h.kept own))
 
 abbrev under : ℕ → ℕ → ℕ → ℕ → Lister
-under w0 k0 n k = record { key = Known w0 k0; lines = n; opened = k; held = 0 }
+under w0 k0 n k = record { key = Known (record { w0 = w0; k0 = k0 }); lines = n; opened = k; held = 0 }
 
 rest_known : (w0 k0 n k : ℕ) (used m : List ℕ) (ls : List (List ℕ)) → Stands used k m
     → rest (under w0 k0 n k) m ls ≡ reports n (answers w0 k0 used ls) ++ total (n + length (answers w0 k0 used ls)) (k + opened_in (answers w0 k0 used ls))
@@ -82,9 +82,6 @@ unfolding ending closing
 rest_bad n k m [] = refl
 rest_bad n k m (l ∷ ls) = rest_bad n k m ls
 
-abbrev pub start : Lister
-start = record { key = Unread; lines = 0; opened = 0; held = 0 }
-
 pub listed_key : (l : List ℕ) (ls : List (List ℕ)) → is_key l ≡ true → listed (l ∷ ls) ≡ reported (answers (w0_of l) (k0_of l) [] ls)
 unfolding listed
 listed_key l ls e = simp e
@@ -95,7 +92,7 @@ listed_bad l ls e = simp e
 
 module _ (m : List ℕ) (room : length m ≡ serials_max) where
   -- the first line has the key k
-  abbrev keyed : List (List ℕ) → Key → List ℕ
+  abbrev keyed : List (List ℕ) → KeyLine → List ℕ
   keyed ls k = key_text k ++ rest (record { key = k; lines = 0; opened = 0; held = 0 }) m ls
 
   rest_key : (l : List ℕ) (ls : List (List ℕ)) (t : Bool) → is_key l ≡ t → keyed ls (key_of l) ≡ listed (l ∷ ls)

@@ -9,7 +9,7 @@ use lib.Seq.{take_all, get_or-take}
 use Rattle.words.proofs.Cases.{by_lt}
 use Rattle.line.specs.Reader.{hex_value, number_at, serial_of}
 use Rattle.line.specs.Calls.{opening_as, opening_line}
-use Rattle.line.specs.declared.Reading.{Reading}
+use Rattle.line.specs.Line.{Reading}
 use Rattle.line.proofs.Ends.{long_line, long_bad}
 use Rattle.listing.specs.Listing.{answer_of}
 use Rattle.listing.specs.Chunks.{key_of}

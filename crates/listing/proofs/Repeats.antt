@@ -9,8 +9,8 @@ use native.Mathlib.Omega.{arith}
 use lib.ListN.{length}
 use Rattle.words.specs.Lists.{among}
 use Rattle.words.proofs.Cases.{by_eq, clash, not_true_false}
-use Rattle.refusals.specs.declared.Answer.{Answer}
-use Rattle.refusals.specs.declared.Answer.TheVariants.{Wrote, Refused}
+use Rattle.refusals.specs.Refusals.{Answer}
+use Rattle.std.specs.Prelude.{Ok, Err}
 use Rattle.refusals.specs.declared.Refusal.{Refusal}
 use Rattle.serials.proofs.Among.{among_here, among_there}
 use Rattle.line.specs.Reader.{serial_of}
@@ -33,13 +33,13 @@ module _ (w0 k0 : ℕ) where
       ∙ add_assoc (length used) (one (answer_after w0 k0 used l)) (opened_in (answers w0 k0 (used_after w0 k0 used l) ls))
     where
       one_more : (a : Answer) → length (used_by used (serial_of l) a) ≡ length used + one a
-      one_more (Wrote k) = omega arith
-      one_more (Refused r) = omega arith
+      one_more (Ok k) = omega arith
+      one_more (Err r) = omega arith
 
   -- what is used stays used
   still_by : (x : ℕ) (used : List ℕ) (serial : ℕ) (a : Answer) → among x used ≡ true → among x (used_by used serial a) ≡ true
-  still_by x used serial (Wrote k) e = by_eq x serial (λ h. among_here x serial used h) (λ h. among_there x serial used h ∙ e)
-  still_by x used serial (Refused r) e = e
+  still_by x used serial (Ok k) e = by_eq x serial (λ h. among_here x serial used h) (λ h. among_there x serial used h ∙ e)
+  still_by x used serial (Err r) e = e
 
   still_used : (x : ℕ) (used : List ℕ) (ls : List (List ℕ)) → among x used ≡ true → among x (used_up_to w0 k0 used ls) ≡ true
   still_used x used [] e = e
@@ -52,7 +52,7 @@ module _ (w0 k0 : ℕ) where
     later : List (List ℕ)
     cut : ls ≡ earlier ++ (line ∷ later)
     size : ℕ
-    opened : answer_after w0 k0 (used_up_to w0 k0 used earlier) line ≡ Wrote size
+    opened : answer_after w0 k0 (used_up_to w0 k0 used earlier) line ≡ Ok size
     same : serial_of line ≡ x
 
   further : {x : ℕ} {used l : List ℕ} {ls : List (List ℕ)} → Among x (used_after w0 k0 used l) ls → Among x used (l ∷ ls)
@@ -60,8 +60,8 @@ module _ (w0 k0 : ℕ) where
       record { earlier = l ∷ h.earlier; line = h.line; later = h.later; cut = ap (λ (z : List (List ℕ)). l ∷ z) h.cut; size = h.size; opened = h.opened; same = h.same }
 
   first_or : (x : ℕ) (used l : List ℕ) (ls : List (List ℕ)) (a : Answer) → answer_after w0 k0 used l ≡ a → among x (used_by used (serial_of l) a) ≡ true → (among x used ≡ true) ⊎ Among x used (l ∷ ls)
-  first_or x used l ls (Refused r) q e = inl e
-  first_or x used l ls (Wrote k) q e =
+  first_or x used l ls (Err r) q e = inl e
+  first_or x used l ls (Ok k) q e =
       by_eq x (serial_of l)
       (λ h. inr (record { earlier = []; line = l; later = ls; cut = refl; size = k; opened = q; same = sym h }))
       (λ h. inl (sym (among_there x (serial_of l) used h) ∙ e))
@@ -134,13 +134,13 @@ module _ (w0 k0 : ℕ) where
 
   -- no serial is reported as opened twice
   pub no_serial_twice : (before : List (List ℕ)) (l : List ℕ) (between : List (List ℕ)) (m : List ℕ) (j k : ℕ)
-      → answer_behind w0 k0 before l ≡ Wrote j → answer_behind w0 k0 (before ++ (l ∷ between)) m ≡ Wrote k → serial_of l ≡ serial_of m → ⊥
+      → answer_behind w0 k0 before l ≡ Ok j → answer_behind w0 k0 (before ++ (l ∷ between)) m ≡ Ok k → serial_of l ≡ serial_of m → ⊥
   no_serial_twice before l between m j k e f same =
       unused (serial_of m) (before ++ (l ∷ between)) (opened_as (used_up_to w0 k0 [] (before ++ (l ∷ between))) (serial_of m) (answer_of w0 k0 m) k f).unused
       (record { earlier = before; line = l; later = between; cut = refl; size = j; opened = e; same = same })
 
   -- a refused line uses up nothing: each line behind it is answered as if it were not there
-  pub refused_uses_nothing : (before : List (List ℕ)) (l : List ℕ) (r : Refusal) → answer_behind w0 k0 before l ≡ Refused r → (between : List (List ℕ)) (m : List ℕ)
+  pub refused_uses_nothing : (before : List (List ℕ)) (l : List ℕ) (r : Refusal) → answer_behind w0 k0 before l ≡ Err r → (between : List (List ℕ)) (m : List ℕ)
       → answer_behind w0 k0 (before ++ (l ∷ between)) m ≡ answer_behind w0 k0 (before ++ between) m
   refused_uses_nothing before l r e between m =
       ap (λ (u : List ℕ). answer_after w0 k0 u m)

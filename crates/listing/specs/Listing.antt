@@ -1,25 +1,14 @@
 -- Document 01, "The file checker's listing", with request 1 of document 02, "A serial used twice": what the checker prints, from the bytes of the input.
-use Rattle.std.specs.Prelude.{ℕ, zero, suc, ◌+◌, ◌-◌, ◌/◌, ◌%◌, ◌≤◌, Bool, true, false, cond, ◌&&◌, ◌≡◌, List, [], ◌∷◌, ◌++◌, eqb, ltb, length, get_or, replicate}
-use Rattle.refusals.specs.declared.Answer.{Answer}
-use Rattle.refusals.specs.declared.Answer.TheVariants.{Wrote, Refused}
+use Rattle.std.specs.Prelude.{ℕ, zero, suc, ◌+◌, ◌-◌, ◌≤◌, Bool, true, false, cond, ◌&&◌, ◌≡◌, List, [], ◌∷◌, ◌++◌, eqb, ltb, length, get_or, replicate, Ok, Err}
+use Rattle.refusals.specs.Refusals.{Answer, number_of, place_of}
 use Rattle.words.specs.Cases.{if_le, if_yes}
 use Rattle.words.specs.Lists.{among}
+use Rattle.texts.specs.Texts.{decimal}
+use Rattle.texts.specs.Lines.{lines_of}
 use Rattle.refusals.specs.declared.Refusal.{Refusal}
 use Rattle.refusals.specs.declared.Refusal.TheVariants.{RepeatedSerial, SerialListFull}
-use Rattle.refusals.specs.Refusals.{number_of, place_of}
 use Rattle.line.specs.Reader.{hex_value, number_at, serial_of}
 use Rattle.line.specs.Calls.{opening_line}
-
--- ---- the lines of the input
-
-abbrev pub on_first : ℕ → List (List ℕ) → List (List ℕ)
-on_first b [] = (b ∷ []) ∷ []
-on_first b (l ∷ ls) = (b ∷ l) ∷ ls
-
--- "A last piece without 0A counts as a line if it isn't empty": a line is its bytes with its 0A
-unfoldable pub lines_of : List ℕ → List (List ℕ)
-lines_of [] = []
-lines_of (b ∷ s) = cond (eqb b 10) ((b ∷ []) ∷ lines_of s) (on_first b (lines_of s))
 
 -- ---- the key line
 
@@ -40,15 +29,6 @@ abbrev pub k0_of : List ℕ → ℕ
 k0_of l = number_at l 16 16
 
 -- ---- what is printed: "Every printed line ends with byte 0A."
-
--- a number n below 10 ^ k in decimal
-unfoldable pub spelled : ℕ → ℕ → List ℕ
-spelled zero n = []
-spelled (suc k) n = cond (ltb n 10) ((n + 48) ∷ []) (spelled k (n / 10) ++ (n % 10 + 48) ∷ [])
-
--- every number of 64 bits is below 10 ^ 20
-abbrev pub decimal : ℕ → List ℕ
-decimal n = spelled 20 n
 
 -- "key refused", 0A
 abbrev pub key_refused_text : List ℕ
@@ -76,8 +56,8 @@ refusal_text r = decimal (number_of r) ++ cond (eqb (number_of r) 7) (at_text ++
 
 -- "Each line prints its number with `opened` and the message length, or `refused`, .."
 abbrev pub report : ℕ → Answer → List ℕ
-report n (Wrote k) = decimal n ++ (opened_text ++ (decimal k ++ (10 ∷ [])))
-report n (Refused r) = decimal n ++ (refused_text ++ (refusal_text r ++ (10 ∷ [])))
+report n (Ok k) = decimal n ++ (opened_text ++ (decimal k ++ (10 ∷ [])))
+report n (Err r) = decimal n ++ (refused_text ++ (refusal_text r ++ (10 ∷ [])))
 
 -- ---- what is answered for each line
 
@@ -91,8 +71,8 @@ serials_max = 4096
 
 -- "A frame that would open under a remembered serial is refused, even if identical." "8 repeated serial, 9 serial list full (a fresh serial after 4,096), both after 6, 8 before 9": used are the serials remembered, a is what opening the line by itself answers
 abbrev pub unless_used : List ℕ → ℕ → Answer → Answer
-unless_used used serial (Refused r) = Refused r
-unless_used used serial (Wrote k) = if_yes (among serial used) (Refused RepeatedSerial) (if_le serials_max (length used) (Refused SerialListFull) (Wrote k))
+unless_used used serial (Err r) = Err r
+unless_used used serial (Ok k) = if_yes (among serial used) (Err RepeatedSerial) (if_le serials_max (length used) (Err SerialListFull) (Ok k))
 
 -- what is answered for a line after lines that left these serials used
 abbrev pub answer_after : ℕ → ℕ → List ℕ → List ℕ → Answer
@@ -100,8 +80,8 @@ answer_after w0 k0 used l = unless_used used (serial_of l) (answer_of w0 k0 l)
 
 -- the serials used then: "Refused frames use up nothing."
 abbrev pub used_by : List ℕ → ℕ → Answer → List ℕ
-used_by used serial (Wrote k) = serial ∷ used
-used_by used serial (Refused r) = used
+used_by used serial (Ok k) = serial ∷ used
+used_by used serial (Err r) = used
 
 abbrev pub used_after : ℕ → ℕ → List ℕ → List ℕ → List ℕ
 used_after w0 k0 used l = used_by used (serial_of l) (answer_after w0 k0 used l)
@@ -120,8 +100,8 @@ reports n (a ∷ rest) = report (n + 1) a ++ reports (n + 1) rest
 
 -- 1 for a line that opened
 abbrev pub one : Answer → ℕ
-one (Wrote k) = 1
-one (Refused r) = 0
+one (Ok k) = 1
+one (Err r) = 0
 
 -- how many of the lines opened: "a line with either counts as refused"
 abbrev pub opened_in : List Answer → ℕ
@@ -162,7 +142,7 @@ pub record UsedBefore (w0 k0 serial : ℕ) (before : List (List ℕ)) : Type 0 w
   pub later : List (List ℕ)
   pub cut : before ≡ earlier ++ (line ∷ later)
   pub size : ℕ
-  pub opened : answer_behind w0 k0 earlier line ≡ Wrote size
+  pub opened : answer_behind w0 k0 earlier line ≡ Ok size
   pub same : serial_of line ≡ serial
 
 -- ---- a good file
@@ -170,7 +150,7 @@ pub record UsedBefore (w0 k0 serial : ℕ) (before : List (List ℕ)) : Type 0 w
 -- each of the lines opens by itself
 pub data Opens (w0 k0 : ℕ) : List (List ℕ) → Type 0 where
   none : Opens w0 k0 []
-  more : {l : List ℕ} {ls : List (List ℕ)} (k : ℕ) → answer_of w0 k0 l ≡ Wrote k → Opens w0 k0 ls → Opens w0 k0 (l ∷ ls)
+  more : {l : List ℕ} {ls : List (List ℕ)} (k : ℕ) → answer_of w0 k0 l ≡ Ok k → Opens w0 k0 ls → Opens w0 k0 (l ∷ ls)
 
 -- the serial of each of the lines is neither among these nor that of a line before it
 pub data Once : List ℕ → List (List ℕ) → Type 0 where

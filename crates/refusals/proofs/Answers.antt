@@ -8,23 +8,22 @@ use lib.ListN.{length, drop}
 use Rattle.words.specs.Cases.{if_le, if_yes}
 use Rattle.words.specs.Lists.{among}
 use Rattle.words.proofs.Cases.{le_case, gt_case, le_either}
-use Rattle.refusals.specs.Refusals.{number_of, place_of, returned_of, giving}
-use Rattle.refusals.specs.declared.Answer.{Answer}
-use Rattle.refusals.specs.declared.Answer.TheVariants.{Wrote, Refused}
+use Rattle.refusals.specs.Refusals.{number_of, place_of, Answer, returned_of, giving}
+use Rattle.std.specs.Prelude.{Ok, Err}
 use Rattle.refusals.specs.declared.Refusal.{Refusal}
 use Rattle.refusals.specs.declared.Refusal.TheVariants.{Settings, Length, Serial, SealedSize, Room, Disagrees, Line, RepeatedSerial, SerialListFull, TooLarge}
 
 -- the refusal's number, or 0
 abbrev refusal_in : Answer → ℕ
-refusal_in (Wrote n) = 0
-refusal_in (Refused r) = number_of r
+refusal_in (Ok n) = 0
+refusal_in (Err r) = number_of r
 
 abbrev wrote : Answer → Bool
-wrote (Wrote n) = true
-wrote (Refused r) = false
+wrote (Ok n) = true
+wrote (Err r) = false
 
 -- what `kk_refusal` and `kk_count` of the header take out of the returned number
-pub refusal_shown : (r : Refusal) → place_of r < 2 ^ 32 → (returned_of (Refused r) / 2 ^ 56 ≡ number_of r) × (returned_of (Refused r) % 2 ^ 32 ≡ place_of r)
+pub refusal_shown : (r : Refusal) → place_of r < 2 ^ 32 → (returned_of (Err r) / 2 ^ 56 ≡ number_of r) × (returned_of (Err r) % 2 ^ 32 ≡ place_of r)
 refusal_shown Settings h = (refl, refl)
 refusal_shown Length h = (refl, refl)
 refusal_shown Serial h = (refl, refl)
@@ -36,26 +35,26 @@ refusal_shown RepeatedSerial h = (refl, refl)
 refusal_shown SerialListFull h = (refl, refl)
 refusal_shown TooLarge h = (refl, refl)
 
-pub count_shown : (n : ℕ) → n < 2 ^ 32 → (returned_of (Wrote n) / 2 ^ 56 ≡ 0) × (returned_of (Wrote n) % 2 ^ 32 ≡ n)
+pub count_shown : (n : ℕ) → n < 2 ^ 32 → (returned_of (Ok n) / 2 ^ 56 ≡ 0) × (returned_of (Ok n) % 2 ^ 32 ≡ n)
 count_shown n h = (omega (arith, h), omega (arith, h))
 
 -- an answer is not both written and refused
-pub not_both : {k : ℕ} {r : Refusal} {o p : List ℕ} → ◌≡◌ {A = Answer × List ℕ} (Wrote k, o) (Refused r, p) → ⊥
+pub not_both : {k : ℕ} {r : Refusal} {o p : List ℕ} → ◌≡◌ {A = Answer × List ℕ} (Ok k, o) (Err r, p) → ⊥
 not_both e = false≢true (sym (ap (λ (x : Answer × List ℕ). wrote x.0) e))
 
 -- a call that was lent out, and answered and left x, can give no refusals but these, and leaves the memory as it was in each
 pub record Can (ns out : List ℕ) (x : Answer × List ℕ) : Type 0 where
-  pub only : (r : Refusal) (o : List ℕ) → x ≡ (Refused r, o) → (among (number_of r) ns ≡ true) × (o ≡ out)
+  pub only : (r : Refusal) (o : List ℕ) → x ≡ (Err r, o) → (among (number_of r) ns ≡ true) × (o ≡ out)
 
 module _ {ns out : List ℕ} where
-  pub can_refused : (r : Refusal) → among (number_of r) ns ≡ true → Can ns out (Refused r, out)
+  pub can_refused : (r : Refusal) → among (number_of r) ns ≡ true → Can ns out (Err r, out)
   can_refused r h = record {
     only = λ q o e.
         let same : number_of q ≡ number_of r = sym (ap (λ (x : Answer × List ℕ). refusal_in x.0) e) in
         (ap (λ (n : ℕ). among n ns) same ∙ h, sym (ap (λ (x : Answer × List ℕ). x.1) e));
   }
 
-  pub can_wrote : {k : ℕ} {o : List ℕ} → Can ns out (Wrote k, o)
+  pub can_wrote : {k : ℕ} {o : List ℕ} → Can ns out (Ok k, o)
   can_wrote = record { only = λ r p e. absurd (not_both e) }
 
   pub can_same : {x y : Answer × List ℕ} → x ≡ y → Can ns out y → Can ns out x
@@ -75,10 +74,10 @@ module _ {ns out : List ℕ} where
 
 -- bytes of a known length: with room for them, and without
 module _ (bytes out : List ℕ) (k : ℕ) (size : length bytes ≡ k) where
-  pub gives : k ≤ length out → ◌≡◌ {A = Answer × List ℕ} (Wrote k, bytes ++ drop k out) (giving bytes out)
+  pub gives : k ≤ length out → ◌≡◌ {A = Answer × List ℕ} (Ok k, bytes ++ drop k out) (giving bytes out)
   unfolding giving
   gives room = rw (sym size) (le_case (length bytes) (length out) _ _ (rw size room))
 
-  pub gives_none : length out < k → ◌≡◌ {A = Answer × List ℕ} (Refused Room, out) (giving bytes out)
+  pub gives_none : length out < k → ◌≡◌ {A = Answer × List ℕ} (Err Room, out) (giving bytes out)
   unfolding giving
   gives_none short = gt_case (length bytes) (length out) _ _ (rw size short)

@@ -3,10 +3,10 @@ use mathlib.Core.Path.{refl, sym, ◌∙◌}
 use Rattle.words.proofs.Decided.{Decided}
 use Rattle.refusals.proofs
 
-pub number_decided : Decided proofs.number.Kinds.ps proofs.number.Kinds.r proofs.number.Reads.Post
+pub number_decided : Decided proofs.Refusal.number.Kinds.ps proofs.Refusal.number.Kinds.r proofs.Refusal.number.Reads.Post
 number_decided κs a x y v w p q = (p ∙ sym q, refl)
 
-pub place_decided : Decided proofs.place.Kinds.ps proofs.place.Kinds.r proofs.place.Reads.Post
+pub place_decided : Decided proofs.Refusal.place.Kinds.ps proofs.Refusal.place.Kinds.r proofs.Refusal.place.Reads.Post
 place_decided κs a x y v w p q = (p ∙ sym q, refl)
 
 pub returned_decided : Decided proofs.returned.Kinds.ps proofs.returned.Kinds.r proofs.returned.Reads.Post

@@ -5,19 +5,18 @@ use mathlib.Core.Path.{◌≡◌, refl, sym, ap, ◌∙◌}
 use mathlib.Core.List.{List, [], ◌∷◌}
 use native.Mathlib.Omega.{arith}
 use native.Mathlib.Numerals.{add-one}
-use borrow.Author.Tests.{eq-eqb, ne_eqb}
+use borrow.Author.Tests.{eq-eqb, ne_eqb, lt-ltb, le-ltb}
 use lib.Dec.{eqb}
-use lib.ListN.{length, take, drop, get_or, length-drop, drop_of_length-le}
-use lib.Seq.{drop-cons, drop-drop}
+use lib.ListN.{length, take, drop, get_or, length-drop}
+use lib.Seq.{drop-drop}
+use mathlib.Core.Bool.{not}
+use native.Mathlib.Nat.{add_comm}
+use Rattle.words.proofs.Cases.{by_lt}
+use Rattle.std.proofs.Common.{Option, Some, None, min}
+use Rattle.std.proofs.lemmas.List.{take_rest}
+use Rattle.std.specs.List.{count_by, position, position_or_len}
+use Rattle.std.proofs.lemmas.List.Recursion.{is_count_by}
 use Rattle.texts.specs.Lines.{on_first, lines_of, line_length, ends, last_of, unended}
-
-pub length_end : (b : ℕ) (s : List ℕ) → b ≡ 10 → line_length (b ∷ s) ≡ 1
-unfolding line_length
-length_end b s e = simp (eq-eqb b 10 e)
-
-pub length_more : (b : ℕ) (s : List ℕ) → (b ≡ 10 → ⊥) → line_length (b ∷ s) ≡ suc (line_length s)
-unfolding line_length
-length_more b s e = simp (ne_eqb b 10 e)
 
 pub line_short : (s : List ℕ) → line_length s ≤ length s
 unfolding line_length
@@ -51,14 +50,6 @@ lines_first b (c ∷ s) = go (lines_first c s) (eqb b 10)
     go h false = ap (on_first b) h
 
 -- ---- how many lines there are
-
-pub ends_end : (b : ℕ) (s : List ℕ) → b ≡ 10 → ends (b ∷ s) ≡ suc (ends s)
-unfolding ends
-ends_end b s e = simp (eq-eqb b 10 e)
-
-pub ends_more : (b : ℕ) (s : List ℕ) → (b ≡ 10 → ⊥) → ends (b ∷ s) ≡ ends s
-unfolding ends
-ends_more b s e = simp (ne_eqb b 10 e)
 
 -- a byte before a line is one of its bytes
 same_count : (b c : ℕ) (s : List ℕ) → length (on_first b (lines_of (c ∷ s))) ≡ length (lines_of (c ∷ s))
@@ -109,58 +100,62 @@ module _ (i : ℕ) where
   one_unended [] n h e = absurd (omega arith)
   one_unended (b ∷ s) n h e = let k : i - 1 ≡ length s = omega arith in unended_as b s (rw k at e)
 
--- ---- how many lines there are, byte by byte
+-- whether a byte is 0A
+abbrev pub is_end : ℕ → Bool
+is_end b = eqb b 10
 
--- n of the first i bytes are 0A
-pub record Counted (s : List ℕ) (i n : ℕ) : Type 0 where
-  pub within : i ≤ length s
-  pub few : n ≤ i
-  pub whole : n + ends (drop i s) ≡ ends s
+ends_counted : (s : List ℕ) → ends s ≡ count_by is_end s
+unfolding ends
+ends_counted s = is_count_by ends is_end refl (λ _ xs. rw (add_comm 1 (ends xs), add-one)) s
 
-module _ (s : List ℕ) (i n : ℕ) (c : Counted s i n) where
-  pub counted_end : i < length s → get_or s i 0 ≡ 10 → Counted s (i + 1) (n + 1)
-  counted_end h e =
-      let k : ends (drop i s) ≡ suc (ends (drop (suc i) s)) = ap ends (drop-cons s i 0 h) ∙ ends_end _ (drop (suc i) s) e in
-      record { within = omega arith; few = omega (arith, c.few); whole = ap (λ (j : ℕ). n + 1 + ends (drop j s)) (add-one i) ∙ omega (arith, k, c.whole) }
+-- n bytes are 0A, and the last byte says whether there is one line more
+module _ (s : List ℕ) (n : ℕ) (all : n ≡ count_by is_end s) where
+  pub counted_ended : (0 < length s → get_or s (length s - 1) 0 ≡ 10) → n ≡ length (lines_of s)
+  counted_ended e =
+      by_lt 0 (length s)
+      (λ h. omega (arith, all, ends_counted s, lines_counted s, all_ended (length s) s refl (omega arith) (e h)))
+      (λ h. omega (arith, all, ends_counted s, lines_counted s, lines_none s (omega arith)))
 
-  pub counted_more : i < length s → (get_or s i 0 ≡ 10 → ⊥) → Counted s (i + 1) n
-  counted_more h e =
-      let k : ends (drop i s) ≡ ends (drop (suc i) s) = ap ends (drop-cons s i 0 h) ∙ ends_more _ (drop (suc i) s) e in
-      record { within = omega arith; few = omega (arith, c.few); whole = ap (λ (j : ℕ). n + ends (drop j s)) (add-one i) ∙ omega (arith, k, c.whole) }
+  pub counted_unended : 0 < length s → (get_or s (length s - 1) 0 ≡ 10 → ⊥) → n + 1 ≡ length (lines_of s)
+  counted_unended h e = omega (arith, all, ends_counted s, lines_counted s, one_unended (length s) s refl (omega arith) e)
 
-  counted_all : length s ≤ i → n ≡ ends s
-  unfolding ends
-  counted_all h = omega (arith, ap ends (drop_of_length-le s {i = i} h), c.whole)
+-- ---- where a line ends: behind its first 0A, or with the text
 
-  pub counted_none : length s ≤ i → i ≡ 0 → 0 ≡ length (lines_of s)
-  counted_none h e = sym (lines_none s (omega (arith, c.within)))
+length_first : (s : List ℕ) → line_length s ≡ min (length s) (position_or_len is_end s + 1)
+unfolding line_length
+length_first [] = refl
+length_first (b ∷ s) = go (eqb b 10) (length_first s)
+  where
+    go : (t : Bool) → line_length s ≡ min (length s) (position_or_len is_end s + 1) → cond t 1 (suc (line_length s)) ≡ min (suc (length s)) (cond (not t) (1 + position_or_len is_end s) 0 + 1)
+    go true h = omega arith
+    go false h = omega (arith, h)
 
-  pub counted_ended : length s ≤ i → (i ≡ 0 → ⊥) → get_or s (i - 1) 0 ≡ 10 → n ≡ length (lines_of s)
-  counted_ended h z e = omega (arith, counted_all h, lines_counted s, all_ended i s (omega (arith, c.within)) (omega (arith, z)) e)
+module _ (s : List ℕ) where
+  length_some : (i : ℕ) → position is_end s ≡ Some i → line_length s ≡ i + 1
+  length_some i e =
+      by_lt (position_or_len is_end s) (length s)
+      (λ h.
+      let found : ◌≡◌ {A = Option ℕ} (Some (position_or_len is_end s)) (Some i) = rw (lt-ltb (position_or_len is_end s) (length s) h) at e in
+      let same : position_or_len is_end s ≡ i = cc in
+      omega (arith, h, same, length_first s))
+      (λ h. let lost : ◌≡◌ {A = Option ℕ} None (Some i) = rw (le-ltb (position_or_len is_end s) (length s) h) at e in cc)
 
-  pub counted_unended : length s ≤ i → (i ≡ 0 → ⊥) → (get_or s (i - 1) 0 ≡ 10 → ⊥) → n + 1 ≡ length (lines_of s)
-  counted_unended h z e = omega (arith, counted_all h, lines_counted s, one_unended i s (omega (arith, c.within)) (omega (arith, z)) e)
+  length_none : position is_end s ≡ None → line_length s ≡ length s
+  length_none e =
+      by_lt (position_or_len is_end s) (length s)
+      (λ h. let found : ◌≡◌ {A = Option ℕ} (Some (position_or_len is_end s)) None = rw (lt-ltb (position_or_len is_end s) (length s) h) at e in cc)
+      (λ h. omega (arith, h, length_first s))
 
--- ---- where a line ends, byte by byte
+-- r is where the first 0A from a place on stands
+module _ (s : List ℕ) (a : ℕ) {r : Option ℕ} (first : r ≡ position is_end (take (length s - a) (drop a s))) where
+  from_place : r ≡ position is_end (drop a s)
+  from_place = rw (take_rest s a) at first
 
--- none of the bytes from a to i ended the line
-pub record Passed (s : List ℕ) (a i : ℕ) : Type 0 where
-  pub from : a ≤ i
-  pub within : i ≤ length s
-  pub whole : i + line_length (drop i s) ≡ a + line_length (drop a s)
+  pub ends_behind : (i : ℕ) → r ≡ Some i → a + i + 1 ≡ a + line_length (drop a s)
+  ends_behind i e = omega (arith, length_some (drop a s) i (sym from_place ∙ e))
 
-module _ (s : List ℕ) (a i : ℕ) (p : Passed s a i) where
-  pub passed_end : i < length s → get_or s i 0 ≡ 10 → i + 1 ≡ a + line_length (drop a s)
-  passed_end h e = ap (λ (n : ℕ). i + n) (sym (ap line_length (drop-cons s i 0 h) ∙ length_end _ (drop (suc i) s) e)) ∙ p.whole
-
-  pub passed_more : i < length s → (get_or s i 0 ≡ 10 → ⊥) → Passed s a (i + 1)
-  passed_more h e =
-      let n : line_length (drop i s) ≡ suc (line_length (drop (suc i) s)) = ap line_length (drop-cons s i 0 h) ∙ length_more _ (drop (suc i) s) e in
-      record { from = omega (arith, p.from); within = omega arith; whole = ap (λ (k : ℕ). i + 1 + line_length (drop k s)) (add-one i) ∙ omega (arith, n, p.whole) }
-
-  pub passed_all : length s ≤ i → i ≡ a + line_length (drop a s)
-  unfolding line_length
-  passed_all h = omega (arith, ap line_length (drop_of_length-le s {i = i} h), p.whole)
+  pub ends_with : a ≤ length s → r ≡ None → length s ≡ a + line_length (drop a s)
+  ends_with h e = omega (arith, h, length-drop a s, length_none (drop a s) (sym from_place ∙ e))
 
 -- ---- the lines from a place on
 

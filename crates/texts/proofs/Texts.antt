@@ -2,12 +2,12 @@
 use Prim.Native.Nat.{ℕ, zero, suc, ◌+◌, ◌-◌, ◌/◌, ◌%◌, ◌^◌, ◌≤◌, ◌<◌}
 use mathlib.Core.Bool.{Bool, true, false, cond}
 use mathlib.Core.Path.{◌≡◌, refl, sym, ap, ap₂, ◌∙◌}
-use mathlib.Core.List.{List, [], ◌∷◌, ◌++◌, append_assoc, append-nil}
+use mathlib.Core.List.{List, [], ◌∷◌, ◌++◌, append_assoc}
 use native.Mathlib.Nat.{le_refl, pow-suc, div-lt_iff_lt-mul}
 use native.Mathlib.Omega.{arith}
 use borrow.Author.Tests.{lt-ltb, le-ltb}
 use lib.Dec.{lit<, ltb}
-use lib.ListN.{length, take, drop, set, length-append, length-drop, length-set, drop_of_length-le}
+use lib.ListN.{length, take, drop, set, length-append, length-drop, length-set}
 use lib.Seq.{drop-cons, lt-length-set, get_or-set_same, drop-set-lt, take_at, take_all, take-length, drop-append-add, drop-drop, paste, length_paste_head}
 use Rattle.texts.specs.Texts.{spelled, decimal, Appended}
 
@@ -62,9 +62,6 @@ spell_end x i rest text h s =
 pub spell_part : (x i rest : ℕ) (text : List ℕ) → rest < 10 → Spelling x i rest text → take (20 - i) (drop i (set text i (rest + 48))) ≡ decimal x
 spell_part x i rest text h s = take_all (20 - i) (drop i (set text i (rest + 48))) (simp (length-drop, length-set) (omega (arith, s.size))) ∙ spell_end x i rest text h s
 
-pub spell_size : (x i rest b : ℕ) (text : List ℕ) → Spelling x i rest text → length (set text i b) ≡ 20
-spell_size x i rest b text s = length-set text i b ∙ s.size
-
 spelled_short : (k n : ℕ) → length (spelled k n) ≤ k
 unfolding spelled
 spelled_short zero n = omega arith
@@ -76,10 +73,6 @@ spelled_short (suc k) n = go (ltb n 10) (spelled_short k (n / 10))
 
 pub decimal_short : (n : ℕ) → length (decimal n) ≤ 20
 decimal_short n = spelled_short 20 n
-
-pub spell_start : (x : ℕ) (text : List ℕ) → x < 2 ^ 64 → length text ≡ 20 → Spelling x 19 x text
-spell_start x text h l =
-    record { place = omega arith; left = omega arith; size = l; whole = ap (λ (r : List ℕ). spelled 20 x ++ r) (drop_of_length-le text {i = 20} (omega arith)) ∙ append-nil (decimal x) }
 
 -- ---- one text behind another
 

@@ -10,12 +10,9 @@ pub fn append(out: &mut [u8], n: usize, text: &[u8]) -> usize
     requires { n + length text.now ≤ length out.old }
     ensures { Appended out.old n text.now out.new result }
 {
-    let mut i = 0;
-    while i < text.len() {
-        out[n + i] = text[i];
-        i += 1;
-    }
-    n + text.len()
+    let end = n + text.len();
+    out[n..end].copy_from_slice(text);
+    end
 }
 
 // Writes a number in decimal behind the first n bytes of out, and answers where it ends.
@@ -25,13 +22,14 @@ pub fn append_decimal(out: &mut [u8], n: usize, x: u64) -> usize
 {
     let mut text = [0u8; 20];
     let mut rest = x;
+    // The loop goes over what is left of the number: a `for` over the places would have an end that is never reached.
     let mut i = 19;
     while rest >= 10 {
-        text[i] = (rest % 10) as u8 + 48;
+        text[i] = (rest % 10) as u8 + b'0';
         rest /= 10;
         i -= 1;
     }
-    text[i] = rest as u8 + 48;
+    text[i] = rest as u8 + b'0';
     append(out, n, &text[i..])
 }
 
@@ -40,33 +38,19 @@ pub fn line_end(s: &[u8], at: usize) -> usize
     requires { at ≤ length s.now }
     ensures { result ≡ at + line_length (drop at s.now) }
 {
-    let mut i = at;
-    while i < s.len() {
-        if s[i] == 10 {
-            return i + 1;
-        }
-        i += 1;
+    match s[at..].iter().position(|byte| *byte == b'\n') {
+        Some(i) => at + i + 1,
+        None => s.len(),
     }
-    i
 }
 
 // How many lines a text has: its bytes 0A, and a last unended piece.
 pub fn count_lines(s: &[u8]) -> usize
     ensures { result ≡ length (lines_of s.now) }
 {
-    let mut n = 0;
-    let mut i = 0;
-    while i < s.len() {
-        if s[i] == 10 {
-            n += 1;
-        }
-        i += 1;
+    let ended = s.iter().filter(|byte| **byte == b'\n').count();
+    if s.last().is_some_and(|byte| *byte != b'\n') {
+        return ended + 1;
     }
-    if i == 0 {
-        return 0;
-    }
-    if s[i - 1] == 10 {
-        return n;
-    }
-    n + 1
+    ended
 }

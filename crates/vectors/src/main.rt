@@ -4,9 +4,10 @@
 #![tactic(auto)]
 
 use cells128::Pair;
-use cipher64::BlockAnswer;
-use cipher128::BlockAnswer as BlockAnswer128;
-use refusals::Answer;
+use cipher::{Key, Width};
+use cipher64::Qarma64;
+use cipher128::Qarma128;
+use refusals::Refusal;
 use std::io;
 
 const P: u64 = 0xfb623599da6e8127;
@@ -17,33 +18,72 @@ const W0: u64 = 0x84be85ce9804e94b;
 
 const K0: u64 = 0xec2802d4e0a488e9;
 
+// The key of appendix A.1.
+const KEY: Key<u64> = Key { w0: W0, k0: K0 };
+
 // The place of no sealed byte.
 const UNCHANGED: usize = 1039;
 
-// A block, or the number of its refusal.
-fn print_block(rt: &impl Print, b: &BlockAnswer) -> io::Result<()> {
-    match b {
-        BlockAnswer::Word(w) => print!(rt; "{w:016x}"),
-        BlockAnswer::Refused(r) => print!(rt; "refused {}", refusals::number(*r)),
+// What a width is run on, and how its blocks are written.
+trait Shown: Width {
+    fn name() -> &'static str;
+
+    fn key() -> Key<Self::Word>;
+
+    fn tweak() -> Self::Word;
+
+    fn plain() -> Self::Word;
+
+    fn print(rt: &impl Print, w: Self::Word) -> io::Result<()>;
+}
+
+// The values of appendix A.1.
+impl Shown for Qarma64 {
+    fn name() -> &'static str {
+        ""
+    }
+
+    fn key() -> Key<u64> {
+        KEY
+    }
+
+    fn tweak() -> u64 {
+        T
+    }
+
+    fn plain() -> u64 {
+        P
+    }
+
+    fn print(rt: &impl Print, w: u64) -> io::Result<()> {
+        print!(rt; "{w:016x}")
     }
 }
 
-// The block that was enciphered, deciphered.
-fn back(number: u64, rounds: u64, b: BlockAnswer) -> BlockAnswer {
-    match b {
-        BlockAnswer::Word(w) => cipher64::decipher(number, rounds, W0, K0, T, w),
-        BlockAnswer::Refused(r) => BlockAnswer::Refused(r),
+// No vector of the paper: each value is made of two of appendix A.1.
+impl Shown for Qarma128 {
+    fn name() -> &'static str {
+        "QARMA-128 "
     }
-}
 
-// One line: the settings, C, and P deciphered from it.
-fn print_vector(rt: &impl Print, number: u64, rounds: u64) -> io::Result<()> {
-    print!(rt; "box {number} r {rounds} C = ")?;
-    let c = cipher64::encipher(number, rounds, W0, K0, T, P);
-    print_block(rt, &c)?;
-    print!(rt; " P = ")?;
-    print_block(rt, &back(number, rounds, c))?;
-    println!(rt)
+    fn key() -> Key<Pair> {
+        Key {
+            w0: pair(W0, K0),
+            k0: pair(K0, W0),
+        }
+    }
+
+    fn tweak() -> Pair {
+        pair(T, P)
+    }
+
+    fn plain() -> Pair {
+        pair(P, T)
+    }
+
+    fn print(rt: &impl Print, w: Pair) -> io::Result<()> {
+        print!(rt; "{:016x}{:016x}", w.high, w.low)
+    }
 }
 
 // A value of 128 bits.
@@ -51,38 +91,30 @@ fn pair(high: u64, low: u64) -> Pair {
     Pair { high, low }
 }
 
-// A block of 128 bits, or the number of its refusal.
-fn print_block128(rt: &impl Print, b: &BlockAnswer128) -> io::Result<()> {
+// A block, or the number of its refusal.
+fn print_block<W: Shown>(rt: &impl Print, b: &Result<W::Word, Refusal>) -> io::Result<()> {
     match b {
-        BlockAnswer128::Word(w) => print!(rt; "{:016x}{:016x}", w.high, w.low),
-        BlockAnswer128::Refused(r) => print!(rt; "refused {}", refusals::number(*r)),
+        Ok(w) => W::print(rt, *w),
+        Err(r) => print!(rt; "refused {}", r.number()),
     }
 }
 
-// The block of 128 bits that was enciphered, deciphered.
-fn back128(number: u64, rounds: u64, b: BlockAnswer128) -> BlockAnswer128 {
-    match b {
-        BlockAnswer128::Word(w) => {
-            cipher128::decipher(number, rounds, pair(W0, K0), pair(K0, W0), pair(T, P), w)
-        }
-        BlockAnswer128::Refused(r) => BlockAnswer128::Refused(r),
-    }
+// The block that was enciphered, deciphered.
+fn back<W: Shown>(
+    number: u64,
+    rounds: u64,
+    b: Result<W::Word, Refusal>,
+) -> Result<W::Word, Refusal> {
+    cipher::decipher::<W>(number, rounds, W::key(), W::tweak(), b?)
 }
 
-// One line for QARMA-128: the settings, C, and P deciphered from it. No vector of the paper: each value is made of two of appendix A.1.
-fn print_example128(rt: &impl Print, number: u64, rounds: u64) -> io::Result<()> {
-    print!(rt; "QARMA-128 box {number} r {rounds} C = ")?;
-    let c = cipher128::encipher(
-        number,
-        rounds,
-        pair(W0, K0),
-        pair(K0, W0),
-        pair(T, P),
-        pair(P, T),
-    );
-    print_block128(rt, &c)?;
+// One line: the settings, C, and P deciphered from it.
+fn print_vector<W: Shown>(rt: &impl Print, number: u64, rounds: u64) -> io::Result<()> {
+    print!(rt; "{}box {number} r {rounds} C = ", W::name())?;
+    let c = cipher::encipher::<W>(number, rounds, W::key(), W::tweak(), W::plain());
+    print_block::<W>(rt, &c)?;
     print!(rt; " P = ")?;
-    print_block128(rt, &back128(number, rounds, c))?;
+    print_block::<W>(rt, &back::<W>(number, rounds, c))?;
     println!(rt)
 }
 
@@ -92,10 +124,10 @@ fn skip_vectors128(rt: &impl Print) -> io::Result<()> {
 }
 
 // What a call answers: what it did and the bytes it wrote, or the number of its refusal.
-fn print_answer(rt: &impl Print, did: &str, a: Answer) -> io::Result<()> {
+fn print_answer(rt: &impl Print, did: &str, a: Result<u32, Refusal>) -> io::Result<()> {
     match a {
-        Answer::Wrote { count } => print!(rt; "{did} {count}"),
-        Answer::Refused(r) => print!(rt; "refused {}", refusals::number(r)),
+        Ok(count) => print!(rt; "{did} {count}"),
+        Err(r) => print!(rt; "refused {}", r.number()),
     }
 }
 
@@ -122,7 +154,7 @@ fn print_sealing(
     print_answer(
         rt,
         "sealed",
-        frame::seal(W0, K0, serial, &a[..label], &m[..message], &mut out[..room]),
+        frame::seal(KEY, serial, &a[..label], &m[..message], &mut out[..room]),
     )?;
     println!(rt)
 }
@@ -135,10 +167,10 @@ fn count_up(m: &mut [u8]) {
 }
 
 // How many bytes were written.
-fn written(a: Answer) -> usize {
+fn written(a: Result<u32, Refusal>) -> usize {
     match a {
-        Answer::Wrote { count } => count as usize,
-        Answer::Refused(_) => 0,
+        Ok(count) => count as usize,
+        Err(_) => 0,
     }
 }
 
@@ -167,7 +199,7 @@ fn print_opened(
     lent: &[u8],
     out: &mut [u8],
 ) -> io::Result<()> {
-    let answer = frame::open(W0, K0, serial, stated, label, sealed, out);
+    let answer = frame::open(KEY, serial, stated, label, sealed, out);
     print_answer(rt, "opened", answer)?;
     if memory_right(written(answer), m, lent, out) {
         println!(rt; ", memory right")
@@ -208,7 +240,7 @@ fn print_opening(
         return Ok(());
     }
     count_up(&mut m);
-    frame::seal(W0, K0, 1, &a[..5], &m[..message], &mut sealed);
+    let _ = frame::seal(KEY, 1, &a[..5], &m[..message], &mut sealed);
     sealed[changed] ^= 1;
     print_opened(
         rt,
@@ -261,20 +293,20 @@ fn print_disagreements(rt: &impl Print) -> io::Result<()> {
 fn main(rt: HostRuntime) -> io::Result<()> {
     for rounds in 5..8 {
         for number in 0..3 {
-            print_vector(&rt, number, rounds)?;
+            print_vector::<Qarma64>(&rt, number, rounds)?;
         }
     }
     for rounds in 2..10 {
-        print_vector(&rt, 1, rounds)?;
+        print_vector::<Qarma64>(&rt, 1, rounds)?;
     }
-    print_vector(&rt, 3, 7)?;
+    print_vector::<Qarma64>(&rt, 3, 7)?;
     skip_vectors128(&rt)?;
     for rounds in 2..13 {
-        print_example128(&rt, 1, rounds)?;
+        print_vector::<Qarma128>(&rt, 1, rounds)?;
     }
-    print_example128(&rt, 0, 11)?;
-    print_example128(&rt, 2, 11)?;
-    print_example128(&rt, 3, 11)?;
+    print_vector::<Qarma128>(&rt, 0, 11)?;
+    print_vector::<Qarma128>(&rt, 2, 11)?;
+    print_vector::<Qarma128>(&rt, 3, 11)?;
     print_sealing(&rt, 1, 0, 0, 8)?;
     print_sealing(&rt, 1, 0, 0, 7)?;
     print_sealing(&rt, 1, 0, 1, 16)?;

@@ -10,10 +10,8 @@ pub fn read(s: &[u8], m: u32) -> u64
     ensures { result ≡ word m s.now }
 {
     let mut x: u64 = 0;
-    let mut i = 0;
-    while i < s.len() {
-        x = (x << m) + s[i] as u64;
-        i += 1;
+    for digit in s {
+        x = (x << m) + *digit as u64;
     }
     x
 }
@@ -25,9 +23,7 @@ pub fn write(out: &mut [u8], m: u32, w: u64)
 {
     let mask = (1u64 << m) - 1;
     let mut x = w;
-    let mut i = out.len();
-    while i > 0 {
-        i -= 1;
+    for i in (0..out.len()).rev() {
         out[i] = (x & mask) as u8;
         x >>= m;
     }
@@ -38,10 +34,8 @@ pub fn put(list: &[u64], out: &mut [u8])
     requires { length list.now * 8 ≤ length out.old }
     ensures { out.new ≡ laid (length list.now) (λ i. get_or list.now i 0) ++ drop (length list.now * 8) out.old }
 {
-    let mut i = 0;
-    while i < list.len() {
+    for (i, word) in list.iter().enumerate() {
         let at = i * 8;
-        write(&mut out[at..at + 8], 8, list[i]);
-        i += 1;
+        write(&mut out[at..at + 8], 8, *word);
     }
 }

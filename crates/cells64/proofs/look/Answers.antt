@@ -8,7 +8,7 @@ use Rattle.cells64.proofs.look.Goals as goal
 
 -- each cell is below 16
 pub look_up-requires : goal.look_up-requires
-look_up-requires c = c.requires.1.all c.loop-i.i (search fills)
+look_up-requires c = c.requires.all c.loop-i.i (search fills)
 
 -- all sixteen are looked up in the box
 pub returns : goal.returns

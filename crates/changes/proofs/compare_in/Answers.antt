@@ -25,5 +25,6 @@ give-requires c = omega (arith, head_part c.walk-n.new.out c.walk-n.result (omeg
 pub returns : goal.returns
 unfolding reporting
 returns c =
-    c.give.ensures
-    ∙ ap (λ (t : List ℕ). of_neither (giving t c.args.out.now)) (text_taken _ _ _ _ c.walk-n.ensures.0 ∙ handles_report c.requires.0.0 c.requires.0.1)
+    ap of_neither
+    (c.give.ensures
+    ∙ ap (λ (t : List ℕ). giving t c.args.out.now) (text_taken _ _ _ _ c.walk-n.ensures.0 ∙ handles_report c.requires.0.0 c.requires.0.1))

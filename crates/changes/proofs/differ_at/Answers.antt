@@ -1,13 +1,15 @@
--- `changes::differ_at` meets its contract: the bytes that were passed are the same.
-use native.Mathlib.Omega.{arith}
-use Rattle.changes.proofs.Pairs.{alike_not, alike_more, alike_all}
+-- `changes::differ_at` meets its contract: the place of the first pair that differs.
+use borrow.Author.Tests.{tests}
+use mathlib.Core.Path.{◌≡◌}
+use Rattle.std.proofs.Common.{rules}
+use Rattle.std.proofs.lemmas.Iterator.{IsFirst-from_position, YieldsList-from_slice, YieldsList-from_zip}
+use Rattle.changes.proofs.Pairs.{differ_first}
 use Rattle.changes.proofs.differ_at.Goals as goal
 
-pub returns-then-a-i : goal.returns-then-a-i
-returns-then-a-i c = (alike_not _ _ _ c.loop-i.invariant (omega arith) c.if-a-i.true, omega arith)
-
-pub loop-i-preserved : goal.loop-i-preserved
-loop-i-preserved c = alike_more _ _ _ c.loop-i.invariant (omega arith) c.if-a-i.false
-
 pub returns : goal.returns
-returns c = (alike_all _ _ _ c.loop-i.invariant (omega arith), omega (arith, c.loop-i.invariant.within))
+returns c =
+    let a = c.args.a.now in
+    let b = c.args.b.now in
+    rw c.unwrap_or.ensures
+    (differ_first a b c.position.result c.requires
+    (IsFirst-from_position c.position.new.self _ _ (λ p. p.0 ≡ p.1 → ⊥) (λ p. p.0 ≡ p.1) c.position.ensures.ran (YieldsList-from_zip (YieldsList-from_slice a cc) (YieldsList-from_slice b cc)) (λ x q k. search (rules, tests)) (λ x q k. search (rules, tests))))

@@ -5,10 +5,10 @@ use Rattle.changes.proofs.Serials.{once_not, once_more, once_all}
 use Rattle.changes.proofs.first_repeat.Goals as goal
 
 pub returns-then-came_before : goal.returns-then-came_before
-returns-then-came_before c = (once_not _ _ c.loop-j.invariant (omega arith) (sym c.if-came_before.true ∙ c.came_before.ensures), omega (arith, c.loop-j.invariant.short))
+returns-then-came_before c = record { number = once_not _ _ c.loop-j.invariant (omega arith) (sym c.if-came_before.true ∙ c.came_before.ensures); few = omega (arith, c.loop-j.invariant.short) }
 
 pub loop-j-preserved : goal.loop-j-preserved
 loop-j-preserved c = once_more _ _ c.loop-j.invariant (omega arith) (sym c.if-came_before.false ∙ c.came_before.ensures)
 
 pub returns : goal.returns
-returns c = (once_all _ _ c.loop-j.invariant (omega arith), omega arith)
+returns c = record { number = once_all _ _ c.loop-j.invariant (omega arith); few = tt }

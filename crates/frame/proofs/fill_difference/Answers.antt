@@ -3,7 +3,6 @@ use Prim.Native.Nat.{◌-◌, ◌*◌, ◌/◌, ◌%◌, ◌^◌}
 use mathlib.Core.Path.{sym, ◌∙◌}
 use native.Mathlib.Omega.{arith}
 use lib.ListN.{get_or}
-use lib.Pow.{pow_pos}
 use Rattle.words.proofs.Laws.{power}
 use Rattle.words.proofs.Cases.{le_case, gt_case}
 use Rattle.frame.proofs.Differences.{difference}
@@ -12,9 +11,6 @@ use Rattle.frame.proofs.fill_difference.Goals as goal
 
 pub returns-then-r-eq0 : goal.returns-then-r-eq0
 returns-then-r-eq0 c = le_case _ _ _ _ (omega arith) ∙ sym (fill_bits _ _)
-
-pub nonzero_rem-result : goal.nonzero_rem-result
-nonzero_rem-result c = rw (power (64 - c.args.n % 8 * 8) 64 (omega arith)) (pow_pos (64 - c.args.n % 8 * 8))
 
 pub returns : goal.returns
 returns c =

@@ -1,24 +1,11 @@
 -- `put_message` meets its contract: whole blocks, then the bytes of the last one that count.
-use mathlib.Core.Path.{◌≡◌, sym, ap, ◌∙◌}
+use mathlib.Core.Path.{◌≡◌, ap, ◌∙◌}
 use Prim.Native.Nat.{ℕ, ◌≤◌, ◌-◌, ◌*◌, ◌/◌, ◌^◌}
 use native.Mathlib.Omega.{arith}
 use lib.ListN.{length, get_or, take, drop, length-take, length-drop}
-use lib.Seq.{length-take-le}
 use Rattle.words.specs.Digits.{digits}
 use Rattle.frame.proofs.Laws.{put_words, put_none, put_last}
 use Rattle.frame.proofs.put_message.Goals as goal
-
-pub slice_bounds-put-end : goal.slice_bounds-put-end
-slice_bounds-put-end c =
-    let args = c.args in
-    let h : args.n / 8 ≤ length args.plain.now = omega arith in
-    sym (length-take-le (args.n / 8) args.plain.now h)
-
-pub put-requires : goal.put-requires
-put-requires c =
-    let args = c.args in
-    let h : args.n / 8 ≤ length args.plain.now = omega arith in
-    rw (length-take-le (args.n / 8) args.plain.now h) (omega arith)
 
 pub returns-then-at-n : goal.returns-then-at-n
 returns-then-at-n c =

@@ -6,8 +6,8 @@ use Rattle.frame.proofs.tag_purpose.Goals as goal
 
 pub returns-then-n-eq0 : goal.returns-then-n-eq0
 unfolding tag_purpose
-returns-then-n-eq0 c = (le_case _ _ _ _ (omega arith), omega arith)
+returns-then-n-eq0 c = le_case _ _ _ _ (omega arith)
 
 pub returns : goal.returns
 unfolding tag_purpose
-returns c = (gt_case _ _ _ _ (omega arith), omega arith)
+returns c = gt_case _ _ _ _ (omega arith)

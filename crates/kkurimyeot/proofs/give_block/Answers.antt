@@ -4,8 +4,8 @@ use Prim.Native.Nat.{ℕ}
 use Rattle.kkurimyeot.proofs.Returns.{returns_lem}
 use Rattle.kkurimyeot.proofs.give_block.Goals as goal
 
-pub returns-in-Word : goal.returns-in-Word
-returns-in-Word c = rw c.in-Word.is (returns_lem c.returned.ensures c.give.ensures)
+pub returns-in-Ok : goal.returns-in-Ok
+returns-in-Ok g c = rw c.in-Ok.is (returns_lem c.returned.ensures c.give.ensures)
 
-pub returns-in-Refused : goal.returns-in-Refused
-returns-in-Refused c = rw c.in-Refused.is (ap (λ (n : ℕ). (n, c.args.out.now)) c.returned-in-Refused.ensures)
+pub returns-in-Err : goal.returns-in-Err
+returns-in-Err g c = rw c.in-Err.is (ap (λ (n : ℕ). (n, c.args.out.now)) c.returned-in-Err.ensures)

@@ -4,8 +4,8 @@ use Prim.Native.Nat.{ℕ}
 use Rattle.kkurimyeot.proofs.Returns.{returns_lem}
 use Rattle.kkurimyeot.proofs.give_reading.Goals as goal
 
-pub returns-in-Fields : goal.returns-in-Fields
-returns-in-Fields c = rw c.in-Fields.is (returns_lem c.returned.ensures c.give.ensures)
+pub returns-in-Ok : goal.returns-in-Ok
+returns-in-Ok c = rw c.in-Ok.is (returns_lem c.returned.ensures c.give.ensures)
 
-pub returns-in-NotLine : goal.returns-in-NotLine
-returns-in-NotLine c = rw c.in-NotLine.is (ap (λ (n : ℕ). (n, c.args.out.now)) c.returned-in-NotLine.ensures)
+pub returns-in-Err : goal.returns-in-Err
+returns-in-Err c = rw c.in-Err.is (ap (λ (n : ℕ). (n, c.args.out.now)) (rw c.from.ensures at c.returned-in-Err.ensures))

@@ -3,4 +3,4 @@ use Rattle.kkurimyeot.proofs.Returns.{returns_lem}
 use Rattle.kkurimyeot.proofs.give_words.Goals as goal
 
 pub returns : goal.returns
-returns c = returns_lem c.returned.ensures c.give.ensures
+returns g c = returns_lem c.returned.ensures c.give.ensures

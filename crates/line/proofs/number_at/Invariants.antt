@@ -1,11 +1,7 @@
--- `line::number_at` meets its contract: after i turns v is the number of the first i digits, which is below 2 ^ 49. Assumes nothing.
-use Prim.Native.Nat.{◌≤◌, ◌-◌}
+-- `line::number_at` meets its contract: after i turns v is the number of the first i digits, and no greater than that of all.
 use mathlib.Core.Path.{◌≡◌}
 use Rattle.line.specs.Reader.{number_at}
 use Rattle.line.proofs.number_at.Given as goal
 
 abbrev pub invariant-loop-i : goal.invariant-loop-i
-invariant-loop-i l = (l.i ≤ l.n) × (l.v ≡ number_at l.s l.a l.i)
-
-abbrev pub decreases-loop-i : goal.decreases-loop-i
-decreases-loop-i l = l.n - l.i
+invariant-loop-i l = (l.v ≡ number_at l.s l.a l.i)

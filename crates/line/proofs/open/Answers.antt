@@ -1,12 +1,15 @@
 -- `line::open` meets its contract: the reading decides.
-use Rattle.line.proofs.Opener.{refused_line, fields_line, fields_read}
+use mathlib.Core.Path.{◌∙◌}
+use Rattle.std.proofs.lemmas.Result.{err_from_is_err_and}
+use Rattle.line.proofs.Opener.{opened_so, fields_read}
 use Rattle.line.proofs.open.Goals as goal
 
-pub returns-in_default : goal.returns-in_default
-returns-in_default c = refused_line _ _ c.read-r.ensures _ _ _ _ _ c.in_default.is c.refuse.ensures
+-- no line: refusal 7 with its place
+pub returns-in_err-fields : goal.returns-in_err-fields
+returns-in_err-fields c = let p = err_from_is_err_and c.from_residual.result c.from_residual.ensures.1 in rw (p.1, p.2) (opened_so _ _ _ _ _ (c.in_err-fields.ensures))
 
-pub open_fields-requires : goal.open_fields-requires
-open_fields-requires c = fields_read _ _ c.read-r.ensures _ _ _ _ _ c.in-Fields.is
+pub open-requires : goal.open-requires
+open-requires c = fields_read _ _ (c.in_ok-fields.ensures)
 
 pub returns : goal.returns
-returns c = fields_line _ _ c.read-r.ensures _ _ _ _ _ c.in-Fields.is _ _ _ _ c.open_fields.ensures
+returns c = c.open.ensures ∙ opened_so _ _ _ _ _ (c.in_ok-fields.ensures)

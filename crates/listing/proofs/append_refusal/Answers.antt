@@ -1,12 +1,13 @@
 -- `listing::append_refusal` meets its contract: the number alone, or with the place for 7.
-use borrow.Author.Tests.{eq-eqb, ne_eqb}
-use mathlib.Core.List.{append-nil}
 use native.Mathlib.Omega.{arith}
-use Rattle.listing.proofs.Texts.{and_then}
+use Rattle.texts.proofs.Texts.{and_then}
+use Rattle.listing.proofs.Refused.{number_alone}
 use Rattle.listing.proofs.append_refusal.Goals as goal
 
-pub returns-then-k-ne7 : goal.returns-then-k-ne7
-returns-then-k-ne7 c = (rw (← c.number-k.ensures, ne_eqb _ 7 c.if-k-ne7.true, append-nil) c.append_decimal-a.ensures.0, omega arith)
+pub returns-in-Line : goal.returns-in-Line
+returns-in-Line c =
+    let number = rw (c.number.ensures, c.in-Line.is) at c.append_decimal-a.ensures.0 in
+    (rw c.in-Line.is (and_then number c.append_field.ensures.0 (omega arith)), omega arith)
 
 pub returns : goal.returns
-returns c = (rw (← c.number-k.ensures, ← c.place.ensures, eq-eqb _ 7 c.if-k-ne7.false) (and_then c.append_decimal-a.ensures.0 c.append_field.ensures.0 (omega arith)), omega arith)
+returns c = (rw (number_alone _ c.in_default.not-Line, ← c.number.ensures) c.append_decimal-a.ensures.0, omega arith)

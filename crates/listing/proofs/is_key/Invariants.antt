@@ -1,5 +1,4 @@
 -- `listing::is_key` meets its contract: each test is a case of `is_key`.
-use Prim.Native.Nat.{◌≤◌, ◌-◌}
 use mathlib.Core.Bool.{true}
 use mathlib.Core.Path.{◌≡◌}
 use lib.ListN.{length, get_or}
@@ -7,7 +6,4 @@ use Rattle.listing.specs.Listing.{are_digits}
 use Rattle.listing.proofs.is_key.Given as goal
 
 abbrev pub invariant-loop-i : goal.invariant-loop-i
-invariant-loop-i l = (l.i ≤ 32) × (are_digits l.l l.i ≡ true) × (length l.l ≡ 33) × (get_or l.l 32 0 ≡ 10)
-
-abbrev pub decreases-loop-i : goal.decreases-loop-i
-decreases-loop-i l = 32 - l.i
+invariant-loop-i l = (are_digits l.l l.i ≡ true) × (length l.l ≡ 33) × (get_or l.l 32 0 ≡ 10)

@@ -1,16 +1,20 @@
 -- `listing::unless_used` meets its contract: a line that opens by itself is answered by what became of its serial.
-use mathlib.Core.Path.{sym, ◌∙◌}
+use borrow.Author.Rules.{rules}
+use mathlib.Core.Path.{◌≡◌}
+use Rattle.std.specs.Prelude.{Err}
+use Rattle.refusals.specs.Refusals.{Answer}
 use Rattle.listing.proofs.Used.{refused_stays, answered}
 use Rattle.listing.proofs.unless_used.Goals as goal
 
-pub returns-then-one_of-eq0 : goal.returns-then-one_of-eq0
-returns-then-one_of-eq0 c = refused_stays _ _ _ _ (sym c.one_of.ensures.0 ∙ c.if-one_of-eq0.true)
+pub returns-in_err-count : goal.returns-in_err-count
+returns-in_err-count c =
+    let same : ◌≡◌ {A = Answer} c.from_residual.result (Err c.in_err-count.field-0.0) = search rules in
+    rw (same, c.in_err-count.was) (refused_stays _ _ _ _)
 
-pub returns-in-Fresh : goal.returns-in-Fresh
-returns-in-Fresh c = answered _ _ _ c.requires _ (λ e. c.if-one_of-eq0.false (c.one_of.ensures.0 ∙ e)) c.serial_of.ensures c.remember.ensures c.in-Fresh.is
+pub returns-in_err-remember : goal.returns-in_err-remember
+returns-in_err-remember c =
+    let same : ◌≡◌ {A = Answer} c.from_residual-in_err-remember.result (Err c.in_err-remember.field-0.0) = search rules in
+    rw (same, c.in_ok-count.was) (answered _ _ _ c.requires c.in_ok-count.count c.serial_of.ensures c.remember.ensures c.in_err-remember.was)
 
-pub returns-in-Repeated : goal.returns-in-Repeated
-returns-in-Repeated c = answered _ _ _ c.requires c.args.own (λ e. c.if-one_of-eq0.false (c.one_of.ensures.0 ∙ e)) c.serial_of.ensures c.remember.ensures c.in-Repeated.is
-
-pub returns-in-Full : goal.returns-in-Full
-returns-in-Full c = answered _ _ _ c.requires c.args.own (λ e. c.if-one_of-eq0.false (c.one_of.ensures.0 ∙ e)) c.serial_of.ensures c.remember.ensures c.in-Full.is
+pub returns : goal.returns
+returns c = rw c.in_ok-count.was (answered _ _ _ c.requires _ c.serial_of.ensures c.remember.ensures c.in_ok-remember.was)

@@ -1,29 +1,19 @@
--- `texts::count_lines` meets its contract: the bytes 0A that were counted and those that are left are all; the last byte says whether there is one line more.
-use native.Mathlib.Omega.{arith}
-use Rattle.texts.proofs.Lines.{counted_end, counted_more, counted_none, counted_ended, counted_unended}
+-- `texts::count_lines` meets its contract: each byte 0A ends a line, and the last byte says whether there is one line more.
+use Rattle.std.proofs.Common.{arith, rules, ◌≡◌, ◌<◌, ◌-◌, get_or, length}
+use Rattle.std.proofs.lemmas.Grind.{common_steps}
+use Rattle.std.specs.List.{count_by}
+use Rattle.texts.proofs.Lines.{is_end, counted_unended, counted_ended}
 use Rattle.texts.proofs.count_lines.Goals as goal
-use Rattle.texts.proofs.count_lines.Goals.{then-s-i-eq10, else-s-i-eq10}
 
-pub loop-i-init : goal.loop-i-init
-loop-i-init c = record { within = omega arith; few = omega arith; whole = omega arith }
+pub returns-then-is_some_and : goal.returns-then-is_some_and
+returns-then-is_some_and c =
+    let all : c.count-ended.result ≡ count_by is_end c.args.s.now = search rules in
+    let some : 0 < length c.args.s.now = grind (arith, common_steps) in
+    let last : get_or c.args.s.now (length c.args.s.now - 1) 0 ≡ 10 → ⊥ = λ e. grind (arith, common_steps) in
+    counted_unended _ _ all some last
 
--- the byte was counted if it is 0A
-pub loop-i-preserved : goal.loop-i-preserved
-loop-i-preserved c =
-    let inv = c.loop-i.invariant in
-    elim c.if-s-i-eq10.branch [
-      | then-s-i-eq10 w ↦ rw w.n-is (counted_end _ _ _ inv (omega arith) w.if-s-i-eq10.true)
-      | else-s-i-eq10 w ↦ rw w.n-is (counted_more _ _ _ inv (omega arith) w.if-s-i-eq10.false)
-    ]
-
--- an empty text has no line
-pub returns-then-i-eq0 : goal.returns-then-i-eq0
-returns-then-i-eq0 c = counted_none _ _ _ c.loop-i.invariant (omega arith) c.if-i-eq0.true
-
--- the last byte is 0A: every line was counted
-pub returns-then-s-i-eq10-2 : goal.returns-then-s-i-eq10-2
-returns-then-s-i-eq10-2 c = counted_ended _ _ _ c.loop-i.invariant (omega arith) c.if-i-eq0.false c.if-s-i-eq10-2.true
-
--- a last piece without 0A
 pub returns : goal.returns
-returns c = counted_unended _ _ _ c.loop-i.invariant (omega arith) c.if-i-eq0.false c.if-s-i-eq10-2.false
+returns c =
+    let all : c.count-ended.result ≡ count_by is_end c.args.s.now = search rules in
+    let last : 0 < length c.args.s.now → get_or c.args.s.now (length c.args.s.now - 1) 0 ≡ 10 = λ h. grind (arith, common_steps) in
+    counted_ended _ _ all last

@@ -1,17 +1,19 @@
--- `texts::line_end` meets its contract: from each byte that is passed, the line ends where it ends from its beginning.
-use native.Mathlib.Omega.{arith}
-use mathlib.Core.Path.{refl}
-use Rattle.texts.proofs.Lines.{passed_end, passed_more, passed_all}
+-- `texts::line_end` meets its contract: the line ends behind the first 0A from its beginning on, or with the text.
+use borrow.Author.Rules.{rules}
+use borrow.Author.Tests.{tests}
+use Rattle.std.proofs.lemmas.Iterator.{YieldsList-from_slice}
+use Rattle.std.proofs.lemmas.Iterator.Search.{position_from_yields_List}
+use Rattle.texts.proofs.Lines.{is_end, ends_behind, ends_with}
 use Rattle.texts.proofs.line_end.Goals as goal
 
-pub loop-i-init : goal.loop-i-init
-loop-i-init c = record { from = omega arith; within = omega arith; whole = refl }
+pub returns-in-Some : goal.returns-in-Some
+returns-in-Some c =
+    ends_behind c.args.s.now c.args.at
+    (position_from_yields_List is_end _ _ _ c.position.ensures.ran (YieldsList-from_slice _ c.iter.ensures.rest) (λ x b q k. search (rules, tests)))
+    _ c.in-Some.is
 
-pub returns-then-s-i-eq10 : goal.returns-then-s-i-eq10
-returns-then-s-i-eq10 c = passed_end _ _ _ c.loop-i.invariant (omega arith) c.if-s-i-eq10.true
-
-pub loop-i-preserved : goal.loop-i-preserved
-loop-i-preserved c = passed_more _ _ _ c.loop-i.invariant (omega arith) c.if-s-i-eq10.false
-
-pub returns : goal.returns
-returns c = passed_all _ _ _ c.loop-i.invariant (omega arith)
+pub returns-in-None : goal.returns-in-None
+returns-in-None c =
+    ends_with c.args.s.now c.args.at
+    (position_from_yields_List is_end _ _ _ c.position.ensures.ran (YieldsList-from_slice _ c.iter.ensures.rest) (λ x b q k. search (rules, tests)))
+    c.requires c.in-None.is

@@ -1,6 +1,0 @@
--- `give_words128` meets its contract: the answer of `give`, as a number.
-use Rattle.kkurimyeot.proofs.Returns.{returns_lem}
-use Rattle.kkurimyeot.proofs.give_words128.Goals as goal
-
-pub returns : goal.returns
-returns c = returns_lem c.returned.ensures c.give.ensures
