@@ -135,8 +135,7 @@
  *   cortex-m4       Cortex-M4, with or without      __aeabi_memclr,
  *                   its floating point unit,        __aeabi_memclr4,
  *                   hard and soft float calls       __aeabi_memclr8,
- *                                                   __aeabi_memcpy,
- *                                                   __aeabi_memcpy4
+ *                                                   __aeabi_memcpy
  *   cortex-m0plus   Cortex-M0+ and Cortex-M0        the same, __aeabi_llsl,
  *                                                   __aeabi_llsr
  *   rv32imc         RISC-V, RV32IMC, ilp32 calls    memcpy, memset

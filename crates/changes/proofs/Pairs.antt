@@ -71,7 +71,7 @@ pub record Bits (a b : List ℕ) (i n : ℕ) : Type 0 where
   pub whole : n + bits_of (drop i a) (drop i b) ≡ bits_of a b
 
 module _ (a b : List ℕ) (i n : ℕ) (k : Bits a b i n) where
-  bits_more : i < length a → ones (get_or a i 0 ⊕ get_or b i 0) ≤ 8 → Bits a b (i + 1) (n + ones (get_or a i 0 ⊕ get_or b i 0))
+  pub bits_more : i < length a → ones (get_or a i 0 ⊕ get_or b i 0) ≤ 8 → Bits a b (i + 1) (n + ones (get_or a i 0 ⊕ get_or b i 0))
   unfolding bits_of
   bits_more h e =
       let z : bits_of (drop i a) (drop i b) ≡ ones (get_or a i 0 ⊕ get_or b i 0) + bits_of (drop (suc i) a) (drop (suc i) b) = ap₂ bits_of (drop-cons a i 0 h) (drop-cons b i 0 (omega (arith, k.size))) in

@@ -1,6 +1,8 @@
 // The comparison of two files: prints what changed between them.
 #![tactic(auto)]
 
+ghost use Rattle.std.specs.Prelude.{◌≤◌, length, IfOk, IfSome};
+
 use refusals::Refusal;
 use std::io::Read;
 use std::rt::Files;
@@ -43,7 +45,9 @@ fn refuse(rt: &impl Eprint, name: &str, line: u16, r: Refusal) {
 }
 
 // Reads a file to its end, or as much of it as there is room for, and answers the bytes that it read.
-fn read_all<'a>(file: &mut impl Read, buf: &'a mut [u8]) -> io::Result<&'a [u8]> {
+fn read_all<'a>(file: &mut impl Read, buf: &'a mut [u8]) -> io::Result<&'a [u8]>
+    ensures { IfOk result (λ s. length s.now ≤ length buf.old) }
+{
     // No `read_to_end`: the room ends it, and a read brings as many bytes as it will, so that no range counts the steps.
     let mut done = 0;
     while done < buf.len() {
@@ -57,7 +61,9 @@ fn read_all<'a>(file: &mut impl Read, buf: &'a mut [u8]) -> io::Result<&'a [u8]>
 }
 
 // Reads the file with this name.
-fn read_file<'a, R: Files>(rt: &R, name: &str, buf: &'a mut [u8]) -> io::Result<&'a [u8]> {
+fn read_file<'a, R: Files>(rt: &R, name: &str, buf: &'a mut [u8]) -> io::Result<&'a [u8]>
+    ensures { IfOk result (λ s. length s.now ≤ length buf.old) }
+{
     let mut file = fs::open(rt, name)?;
     read_all(&mut file, buf)
 }
@@ -67,7 +73,9 @@ fn read_argument<'a, R: Files + Eprint + AllocGlobal>(
     rt: &R,
     name: &str,
     buf: &'a mut [u8],
-) -> Option<&'a [u8]> {
+) -> Option<&'a [u8]>
+    ensures { IfSome result (λ s. length s.now ≤ length buf.old) }
+{
     if name.len() > NAME_MAX {
         say(rt, "compare", "File name too long");
         return None;

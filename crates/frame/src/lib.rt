@@ -111,62 +111,43 @@ struct Enciphered {
     to: u64,
 }
 
-// What one frame is sealed or opened with: a schedule, and a serial, a label and a message of n bytes inside the limits.
+// Whether a serial, a label and a message of n bytes are inside the limits: refusal 2 or 3 where they are not.
+fn within_limits(serial: u64, label: &[u8], n: usize) -> Result<(), Refusal>
+    ensures { MatchResult result (λ _. Within serial label.now n) (λ r. Refuses serial label.now n r) }
+{
+    if MESSAGE_MAX < n {
+        return Err(Refusal::Length);
+    }
+    if LABEL_MAX < label.len() {
+        return Err(Refusal::Length);
+    }
+    if SERIAL_MAX < serial {
+        return Err(Refusal::Serial);
+    }
+    Ok(())
+}
+
+// What one frame is sealed or opened with: a schedule, and a serial, a label and a message of n bytes inside the limits. It goes by value into
+// its methods, so the schedule stands elsewhere: what is copied stays small.
 #[derive(Clone, Copy)]
 struct Sealer<'a> {
-    schedule: Schedule,
+    schedule: &'a Schedule,
     serial: u64,
     label: &'a [u8],
     n: usize,
-    ghost below: { ScheduleBelow 4 schedule },
+    ghost below: { ScheduleBelow 4 schedule.now },
     ghost within: { Within serial label.now n },
 }
 
 impl Sealer<'_> {
-    // The sealer of a key, or refusal 2 or 3.
-    fn of<'a>(key: Key<u64>, serial: u64, label: &'a [u8], n: usize) -> Result<Sealer<'a>, Refusal>
-        ensures limits { MatchResult result (λ x. Within serial label.now n) (λ r. Refuses serial label.now n r) }
-        ensures fields { IfOk result (λ x. (x.schedule ≡ key_schedule qarma64 key.w0 key.k0) × (x.serial ≡ serial) × (x.label.now ≡ label.now) × (x.n ≡ n)) }
-    {
-        if MESSAGE_MAX < n {
-            return Err(Refusal::Length);
-        }
-        if LABEL_MAX < label.len() {
-            return Err(Refusal::Length);
-        }
-        if SERIAL_MAX < serial {
-            return Err(Refusal::Serial);
-        }
-        Ok(Sealer {
-            schedule: cipher::key_schedule::<Qarma64>(key),
-            serial,
-            label,
-            n,
-        })
-    }
-
-    // The same with the schedule turned: its engine deciphers.
-    fn turned(self) -> Self
-        ensures schedule { result.schedule ≡ turned qarma64 self.entry.schedule }
-        ensures serial { result.serial ≡ self.entry.serial }
-        ensures n { result.n ≡ self.entry.n }
-    {
-        Sealer {
-            schedule: cipher::turn::<Qarma64>(self.schedule),
-            serial: self.serial,
-            label: self.label,
-            n: self.n,
-        }
-    }
-
     // The engine with box 1 and r = 7, on a block under the tweak of a purpose and an index.
     fn engine(self, purpose: Purpose, index: usize, block: u64) -> u64
         requires { index < 2 ^ 16 }
-        ensures { result ≡ frame_engine self.entry.schedule (tweak (number purpose) self.entry.serial index) block }
+        ensures { result ≡ frame_engine self.entry.schedule.now (tweak (number purpose) self.entry.serial index) block }
     {
         let t = tweak_of(purpose, self.serial, index as u64);
         let cells = cipher::engine_on_cells::<Qarma64>(
-            self.schedule,
+            *self.schedule,
             Sbox::Sigma1,
             7,
             cells64::of(t),
@@ -178,7 +159,7 @@ impl Sealer<'_> {
     // Block i of some bytes enciphered. Here it is filled, and its purpose chosen: from how many bytes that added, and from nothing else.
     fn seal_block(self, whole: Purpose, filled: Purpose, bytes: &[u8], i: usize) -> Enciphered
         requires { ((number filled ≡ number whole + 1) × (length bytes.now ≤ 1024)) × (i < blocks (length bytes.now)) }
-        ensures { result ≡ enciphered_block self.entry.schedule (number whole) self.entry.serial bytes.now i }
+        ensures { result ≡ enciphered_block self.entry.schedule.now (number whole) self.entry.serial bytes.now i }
     {
         let block = fill_block(bytes, i);
         let purpose = if block.added == 0 { whole } else { filled };
@@ -191,7 +172,7 @@ impl Sealer<'_> {
 
     // The sum of the enciphered blocks of the label.
     fn sum_label(self) -> u64
-        ensures { result ≡ label_sum self.entry.schedule self.entry.serial self.entry.label.now }
+        ensures { result ≡ label_sum self.entry.schedule.now self.entry.serial self.entry.label.now }
     {
         let mut total = 0;
         for i in 0..(self.label.len() + 7) / 8 {
@@ -203,7 +184,7 @@ impl Sealer<'_> {
 
     // The tag, from the sum of the message's blocks.
     fn tag(self, message_sum: u64) -> u64
-        ensures { result ≡ tag_of self.entry.schedule self.entry.serial self.entry.label.now self.entry.n message_sum }
+        ensures { result ≡ tag_of self.entry.schedule.now self.entry.serial self.entry.label.now self.entry.n message_sum }
     {
         let index = (self.n + 7) / 8;
         self.engine(tag_purpose(self.n), index, message_sum) ^ self.sum_label()
@@ -212,7 +193,7 @@ impl Sealer<'_> {
     // Writes each enciphered block of the message into its own place of out, and answers the sum of the blocks.
     fn put_blocks(self, message: &[u8], out: &mut [u8]) -> u64
         requires { (length message.now ≡ self.n) × (blocks (length message.now) * 8 ≤ length out.old) }
-        ensures { (result, out.new) ≡ blocks_put self.entry.schedule self.entry.serial message.now out.old }
+        ensures { (result, out.new) ≡ blocks_put self.entry.schedule.now self.entry.serial message.now out.old }
     {
         let mut total = 0;
         for i in 0..(message.len() + 7) / 8 {
@@ -227,7 +208,7 @@ impl Sealer<'_> {
     // Writes the sealed bytes of the message into the first bytes of out.
     fn put_sealed(self, message: &[u8], out: &mut [u8])
         requires { (length message.now ≡ self.n) × (sealed_size (length message.now) ≤ length out.old) }
-        ensures { out.new ≡ sealed_bytes self.entry.schedule self.entry.serial self.entry.label.now message.now ++ drop (sealed_size (length message.now)) out.old }
+        ensures { out.new ≡ sealed_bytes self.entry.schedule.now self.entry.serial self.entry.label.now message.now ++ drop (sealed_size (length message.now)) out.old }
     {
         let total = self.put_blocks(message, out);
         let behind = (message.len() + 7) / 8 * 8;
@@ -237,7 +218,7 @@ impl Sealer<'_> {
     // Block i of the sealed bytes, deciphered by a turned schedule.
     fn open_block(self, sealed: &[u8], i: usize) -> u64
         requires { (i < blocks self.n) × (i * 8 + 8 ≤ length sealed.now) }
-        ensures { result ≡ opened_block self.entry.schedule self.entry.serial self.entry.n sealed.now i }
+        ensures { result ≡ opened_block self.entry.schedule.now self.entry.serial self.entry.n sealed.now i }
     {
         let at = i * 8;
         let block = words::read(&sealed[at..at + 8], 8);
@@ -247,7 +228,7 @@ impl Sealer<'_> {
     // Every block of the sealed bytes, deciphered.
     fn open_blocks(self, sealed: &[u8], plain: &mut [u64])
         requires { (blocks self.n * 8 ≤ length sealed.now) × (blocks self.n ≤ length plain.old) }
-        ensures { take (blocks self.entry.n) plain.new ≡ upto (blocks self.entry.n) (opened_block self.entry.schedule self.entry.serial self.entry.n sealed.now) }
+        ensures { take (blocks self.entry.n) plain.new ≡ upto (blocks self.entry.n) (opened_block self.entry.schedule.now self.entry.serial self.entry.n sealed.now) }
     {
         for i in 0..(self.n + 7) / 8 {
             plain[i] = self.open_block(sealed, i);
@@ -258,8 +239,8 @@ impl Sealer<'_> {
     fn agrees(self, sealed: &[u8], plain: &[u64]) -> bool
         requires size { length sealed.now ≡ sealed_size self.n }
         requires room { blocks self.n ≤ length plain.now }
-        requires opened { take (blocks self.n) plain.now ≡ upto (blocks self.n) (opened_block (turned qarma64 self.schedule) self.serial self.n sealed.now) }
-        ensures { result ≡ accepted self.entry.schedule self.entry.serial self.entry.label.now self.entry.n sealed.now }
+        requires opened { take (blocks self.n) plain.now ≡ upto (blocks self.n) (opened_block (turned qarma64 self.schedule.now) self.serial self.n sealed.now) }
+        ensures { result ≡ accepted self.entry.schedule.now self.entry.serial self.entry.label.now self.entry.n sealed.now }
     {
         let b = (self.n + 7) / 8;
         let at = b * 8;
@@ -317,11 +298,18 @@ pub fn seal(
 ) -> Result<u32, Refusal>
     ensures { (result, out.new) ≡ sealing key.w0 key.k0 serial label.now message.now out.old }
 {
-    let sealer = Sealer::of(key, serial, label, message.len())?;
+    within_limits(serial, label, message.len())?;
     let size = sealed_size(message.len());
     if out.len() < size {
         return Err(Refusal::Room);
     }
+    let schedule = cipher::key_schedule::<Qarma64>(key);
+    let sealer = Sealer {
+        schedule: &schedule,
+        serial,
+        label,
+        n: message.len(),
+    };
     sealer.put_sealed(message, out);
     Ok(size as u32)
 }
@@ -337,16 +325,30 @@ pub fn open(
 ) -> Result<u32, Refusal>
     ensures { (result, out.new) ≡ opening key.w0 key.k0 serial n label.now sealed.now out.old }
 {
-    let sealer = Sealer::of(key, serial, label, n)?;
+    within_limits(serial, label, n)?;
     if sealed.len() != sealed_size(n) {
         return Err(Refusal::SealedSize);
     }
     if out.len() < n {
         return Err(Refusal::Room);
     }
+    let schedule = cipher::key_schedule::<Qarma64>(key);
+    let turned = cipher::turn::<Qarma64>(schedule);
+    let opener = Sealer {
+        schedule: &turned,
+        serial,
+        label,
+        n,
+    };
     // Fixed memory for the most blocks that a message has; as many as this one has are used.
     let mut plain = [0u64; 128];
-    sealer.turned().open_blocks(sealed, &mut plain);
+    opener.open_blocks(sealed, &mut plain);
+    let sealer = Sealer {
+        schedule: &schedule,
+        serial,
+        label,
+        n,
+    };
     if !sealer.agrees(sealed, &plain) {
         return Err(Refusal::Disagrees);
     }

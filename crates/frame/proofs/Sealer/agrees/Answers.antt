@@ -26,10 +26,10 @@ returns c =
     let self = c.args.self in
     let n = self.n in
     let plain = c.args.plain.now in
-    let f = opened_block (turned qarma64 self.schedule) self.serial n c.args.sealed.now in
+    let f = opened_block (turned qarma64 self.schedule.now) self.serial n c.args.sealed.now in
     let fill = c.fill_difference.ensures ∙ fill_same n f plain c.requires.opened in
     let total = c.sum_words.ensures ∙ words_sum (blocks n) f plain c.requires.opened in
-    let made = c.tag-t.ensures ∙ ap (tag_of self.schedule self.serial self.label.now n) total in
+    let made = c.tag-t.ensures ∙ ap (tag_of self.schedule.now self.serial self.label.now n) total in
     let eight : blocks n * 8 + 8 - blocks n * 8 ≡ 8 = omega arith in
     let read = rw eight at c.read.ensures in
     both_none c.fill_difference.result (c.tag-t.result ⊕ c.read.result)

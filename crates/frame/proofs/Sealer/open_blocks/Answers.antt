@@ -15,4 +15,4 @@ pub loop-i-preserved : goal.loop-i-preserved
 loop-i-preserved c =
     let loop = c.loop-i in
     let self = c.args.self in
-    (simp length-set loop.invariant.0, upto_turn (opened_block self.schedule self.serial self.n c.args.sealed.now) loop.plain loop.i c.open_block.result (omega arith) loop.invariant.1 c.open_block.ensures)
+    (simp length-set loop.invariant.0, upto_turn (opened_block self.schedule.now self.serial self.n c.args.sealed.now) loop.plain loop.i c.open_block.result (omega arith) loop.invariant.1 c.open_block.ensures)

@@ -6,4 +6,4 @@ use Rattle.frame.specs.Frames.{opened_block}
 use Rattle.frame.proofs.Sealer.open_blocks.Given as goal
 
 abbrev pub invariant-loop-i : goal.invariant-loop-i
-invariant-loop-i l = (length l.plain ≡ length l.initial.plain) × (take l.i l.plain ≡ upto l.i (opened_block l.self.schedule l.self.serial l.self.n l.sealed))
+invariant-loop-i l = (length l.plain ≡ length l.initial.plain) × (take l.i l.plain ≡ upto l.i (opened_block l.self.schedule.now l.self.serial l.self.n l.sealed))

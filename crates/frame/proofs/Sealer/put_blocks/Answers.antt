@@ -13,4 +13,4 @@ loop-i-preserved c =
     let loop = c.loop-i in
     let self = c.args.self in
     let enciphered = c.seal_block-block.ensures in
-    (rw add-one (ap₂ ◌⊕◌ loop.invariant.0 (ap (λ (b : Enciphered). b.from) enciphered)), laid_more _ (sealed_block self.schedule 0 self.serial c.args.message.now) c.args.out.now _ _ _ _ (omega arith) loop.invariant.1 (omega arith) c.write.ensures (ap (λ (b : Enciphered). b.to) enciphered))
+    (rw add-one (ap₂ ◌⊕◌ loop.invariant.0 (ap (λ (b : Enciphered). b.from) enciphered)), laid_more _ (sealed_block self.schedule.now 0 self.serial c.args.message.now) c.args.out.now _ _ _ _ (omega arith) loop.invariant.1 (omega arith) c.write.ensures (ap (λ (b : Enciphered). b.to) enciphered))

@@ -9,4 +9,4 @@ use Rattle.frame.specs.Frames.{sealed_block}
 use Rattle.frame.proofs.Sealer.put_blocks.Given as goal
 
 abbrev pub invariant-loop-i : goal.invariant-loop-i
-invariant-loop-i l = (l.total ≡ sum l.i (block l.message)) × Laid ((length l.message + 7) / 8) (sealed_block l.self.schedule 0 l.self.serial l.message) l.initial.out l.out l.i
+invariant-loop-i l = (l.total ≡ sum l.i (block l.message)) × Laid ((length l.message + 7) / 8) (sealed_block l.self.schedule.now 0 l.self.serial l.message) l.initial.out l.out l.i

@@ -18,8 +18,8 @@ returns c =
     let n = blocks (length c.args.message.now) in
     let put = c.put_blocks-total in
     let out = put.new.out in
-    let f = sealed_block self.schedule 0 self.serial c.args.message.now in
+    let f = sealed_block self.schedule.now 0 self.serial c.args.message.now in
     let eight = middle (n * 8) 8 (n * 8 + 8) out refl (omega arith) in
-    let made = c.tag.ensures ∙ ap₂ (tag_of self.schedule self.serial self.label.now) (sym c.requires.0) (λ i. (put.ensures i).0) in
+    let made = c.tag.ensures ∙ ap₂ (tag_of self.schedule.now self.serial self.label.now) (sym c.requires.0) (λ i. (put.ensures i).0) in
     let bytes = c.write.ensures ∙ ap (λ (k : ℕ). digits 8 k c.tag.result) eight ∙ ap (digits 8 8) made in
     put_behind n (laid n f) _ c.args.out.now out c.write.new.out (length_laid n f) (λ i. (put.ensures i).1) bytes

@@ -25,5 +25,5 @@ returns c =
     ] in
     let t = ap (λ (p : ℕ). tweak p self.serial args.i) (chosen ∙ ap (λ (b : Filled). purpose whole b.added) block.ensures) in
     let w = ap (λ (b : Filled). b.word) block.ensures in
-    let e = c.engine-w.ensures ∙ ap₂ (frame_engine self.schedule) t w in
+    let e = c.engine-w.ensures ∙ ap₂ (frame_engine self.schedule.now) t w in
     λ i. record { from = w i; to = e i }

@@ -5,4 +5,4 @@ use Rattle.frame.specs.Frames.{sealed_block}
 use Rattle.frame.proofs.Sealer.sum_label.Given as goal
 
 abbrev pub invariant-loop-i : goal.invariant-loop-i
-invariant-loop-i l = l.total ≡ sum l.i (sealed_block l.self.schedule 2 l.self.serial l.self.label.now)
+invariant-loop-i l = l.total ≡ sum l.i (sealed_block l.self.schedule.now 2 l.self.serial l.self.label.now)
